@@ -1,0 +1,43 @@
+-- Which table a table record is.
+use Prim.Native.Nat.{ℕ, zero, suc, _*_}
+use mathlib.Core.List.{List, [], _∷_}
+use lib.ListN.{length, getD, take, drop}
+use Rattle.model.specs.Table.{Table, Transition}
+use Rattle.tables.specs.declared.TableRecord.{TableRecord}
+
+-- the columns in which a record keeps its transitions: the children of transition j stand from 4 * j on
+pub record Columns : Type 0 where
+  pub ranks : List ℕ
+  pub symbol : List ℕ
+  pub children : List ℕ
+  pub target : List ℕ
+  pub code : List ℕ
+
+-- transition j of the columns
+abbrev pub rowAt : Columns → ℕ → Transition
+rowAt c j =
+    record {
+        symbol = getD (c .symbol) j 0;
+        children = take (getD (c .ranks) (getD (c .symbol) j 0) 0) (drop (j * 4) (c .children));
+        target = getD (c .target) j 0;
+        code = getD (c .code) j 0
+    }
+
+-- k transitions of the columns, from transition j on
+unfoldable pub rowsFrom : Columns → ℕ → ℕ → List Transition
+rowsFrom c j zero = []
+rowsFrom c j (suc k) = rowAt c j ∷ rowsFrom c (suc j) k
+
+abbrev pub columnsOf : TableRecord → Columns
+columnsOf r = record { ranks = r .ranks; symbol = r .symbol; children = r .children; target = r .target; code = r .code }
+
+-- the table that a record is
+abbrev pub tableOf : TableRecord → Table
+tableOf r =
+    record {
+        arithmetic = r .arithmetic;
+        states = r .states;
+        ranks = take (r .symbols) (r .ranks);
+        finals = take (r .states) (r .finals);
+        transitions = rowsFrom (columnsOf r) 0 (r .count)
+    }
