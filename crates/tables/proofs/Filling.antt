@@ -10,7 +10,7 @@ use lib.ListN.{length, take, drop, set, length-set, length-drop}
 use lib.Seq.{drop-set-add, take-suc-set, take-set-le, length-take-le}
 use Rattle.answers.specs.declared.Refusal.{Refusal}
 use Rattle.format.specs.Read.{Found, found, refused, many}
-use Rattle.tables.specs.Fill.{Filled}
+use Rattle.tables.specs.Steps.{Filled}
 use Rattle.tables.specs.declared.Step.{Step}
 use Rattle.tables.specs.declared.Step.the-variants.{Next, Refused}
 

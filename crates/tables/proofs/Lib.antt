@@ -1,2 +1,3 @@
-pub mod Filling
 pub mod Bounds
+pub mod Filling
+pub mod Order

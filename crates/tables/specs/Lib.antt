@@ -1,2 +1,2 @@
 pub mod Record
-pub mod Fill
+pub mod Steps

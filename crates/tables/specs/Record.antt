@@ -2,7 +2,7 @@
 use Prim.Native.Nat.{ℕ, zero, suc, _*_}
 use mathlib.Core.List.{List, [], _∷_}
 use lib.ListN.{length, getD, take, drop}
-use Rattle.model.specs.Table.{Table, Transition}
+use Rattle.model.specs.Table.{Table, Transition, key}
 use Rattle.tables.specs.declared.TableRecord.{TableRecord}
 
 -- the columns in which a record keeps its transitions: the children of transition j stand from 4 * j on
@@ -27,6 +27,14 @@ rowAt c j =
 unfoldable pub rowsFrom : Columns → ℕ → ℕ → List Transition
 rowsFrom c j zero = []
 rowsFrom c j (suc k) = rowAt c j ∷ rowsFrom c (suc j) k
+
+-- the key of transition j, and of the one before it; below the first transition stands the empty key
+abbrev pub keyAt : List ℕ → List ℕ → List ℕ → List ℕ → ℕ → List ℕ
+keyAt ranks symbol children target j = key (rowAt (record { ranks = ranks; symbol = symbol; children = children; target = target; code = [] }) j)
+
+abbrev pub keyBefore : List ℕ → List ℕ → List ℕ → List ℕ → ℕ → List ℕ
+keyBefore ranks symbol children target zero = []
+keyBefore ranks symbol children target (suc j) = keyAt ranks symbol children target j
 
 abbrev pub columnsOf : TableRecord → Columns
 columnsOf r = record { ranks = r .ranks; symbol = r .symbol; children = r .children; target = r .target; code = r .code }

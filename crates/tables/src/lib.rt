@@ -2,13 +2,16 @@
 
 use answers::{Answer, Refusal};
 use numbers::{Cursor, NumberRead};
+use states::State;
 
 ghost use mathlib.Core.Path.{_≡_};
 ghost use Prim.Native.Nat.{ℕ, _+_, _*_, _≤_, _<_};
 ghost use mathlib.Core.List.{[]};
 ghost use lib.ListN.{length, getD, take};
 ghost use Rattle.format.specs.Read.{any, asFound, within, oneOf, listed, many, transitionAt, transitionsAt};
-ghost use Rattle.tables.specs.Fill.{Filled, Small};
+ghost use Rattle.model.specs.Table.{lower};
+ghost use Rattle.tables.specs.Record.{keyAt, keyBefore};
+ghost use Rattle.tables.specs.Steps.{Filled, Small, Long, RowRead, RowsRead, stateFound};
 
 // A table in memory. Of each array the first places count: as many as there are symbols, states or transitions.
 pub struct TableRecord {
@@ -28,6 +31,12 @@ pub struct TableRecord {
 // A step of the reader: on to the next place, or refused.
 pub enum Step {
     Next(Cursor),
+    Refused(Refusal),
+}
+
+// A state of the table with the next place, or the refusal.
+pub enum StateRead {
+    Read(State, Cursor),
     Refused(Refusal),
 }
 
@@ -63,6 +72,17 @@ fn number_of(table: &[u8], place: Cursor, limit: usize) -> NumberRead
             NumberRead::Number(n, next)
         }
         NumberRead::Refused(refusal) => NumberRead::Refused(refusal),
+    }
+}
+
+// A state of the table.
+fn read_state(table: &[u8], place: Cursor, states: usize) -> StateRead
+    requires { ⌜ states ≤ 256 ⌝ }
+    ensures { λ r. ⌜ stateFound r ≡ oneOf (now (table .entry)) states (place .at) ⌝ }
+{
+    match number_of(table, place, states) {
+        NumberRead::Number(n, next) => StateRead::Read(State(n as u8), next),
+        NumberRead::Refused(refusal) => StateRead::Refused(refusal),
     }
 }
 
@@ -134,16 +154,51 @@ fn read_children(table: &[u8], place: Cursor, states: usize, rank: usize, from: 
     let mut next = place;
     let mut i = 0;
     while i < rank {
-        match number_of(table, next, states) {
-            NumberRead::Number(child, behind) => {
-                children[from + i] = child as u8;
+        match read_state(table, next, states) {
+            StateRead::Read(child, behind) => {
+                children[from + i] = child.0;
                 next = behind;
             }
-            NumberRead::Refused(refusal) => {
+            StateRead::Refused(refusal) => {
                 return Step::Refused(refusal);
             }
         }
         i += 1;
     }
     Step::Next(next)
+}
+
+fn wide(byte: u8) -> usize
+    ensures { λ r. ⌜ (r ≡ byte) × (r < 256) ⌝ }
+{
+    byte as usize
+}
+
+// Whether transition j is above the one before it: by symbol, then children left to right, then target.
+fn ascends<'a>(j: usize, ranks: &'a [u8; 128], symbol: &'a [u8; 4000], children: &'a [u8; 16000], target: &'a [u8; 4000]) -> bool
+    requires { ⌜ (j < 4000) × (getD (now symbol) j 0 < 128) × (length (now ranks) ≡ 128) × (length (now symbol) ≡ 4000) × (length (now children) ≡ 16000) × (length (now target) ≡ 4000) × Small (now ranks) ⌝ }
+    ensures { λ r. ⌜ r ≡ lower (keyBefore (now (ranks .entry)) (now (symbol .entry)) (now (children .entry)) (now (target .entry)) j) (keyAt (now (ranks .entry)) (now (symbol .entry)) (now (children .entry)) (now (target .entry)) j) ⌝ }
+{
+    if j == 0 {
+        return true;
+    }
+    let i = j - 1;
+    let before = wide(symbol[i]);
+    let here = wide(symbol[j]);
+    if before != here {
+        return before < here;
+    }
+    let rank = wide(ranks[here]);
+    let mut k = 0;
+    while k < rank {
+        let above = children[i * 4 + k];
+        let child = children[j * 4 + k];
+        if above != child {
+            return above < child;
+        }
+        k += 1;
+    }
+    let last = target[i];
+    let own = target[j];
+    last < own
 }

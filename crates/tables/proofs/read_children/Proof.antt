@@ -3,15 +3,15 @@
 use Prim.Native.Nat.{ℕ, _+_, _-_, _<_}
 use mathlib.Core.Path.{_≡_, refl, sym, ap, _∙_}
 use native.Mathlib.Omega.{arith}
-use Rattle.format.specs.Read.{Found, found, refused, asFound, oneOf}
+use Rattle.format.specs.Read.{found, oneOf}
+use Rattle.tables.specs.Steps.{stateFound}
 use Rattle.tables.proofs.Filling.{Filling, filling-starts, filling-goes-on, filling-ends, filling-refused}
-use Rattle.tables.proofs.Bounds.{oneOf-below}
 use borrow.Author.Needs.{needs}
 use Rattle.tables.proofs.read_children.Statement.{statement}
 use Rattle.tables.proofs.read_children.Tie as tie
 use Rattle.tables.proofs.read_children.Reads as reads
 use Rattle.tables.proofs.read_children.Lts as lts
-use Rattle.tables.proofs.number_of.Reads as number-of-reads
+use Rattle.tables.proofs.read_state.Reads as read-state-reads
 
 abbrev Inv-loop : tie.InvT-loop
 Inv-loop table states rank from children₀ next₀ i₀ children next i = 
@@ -23,8 +23,8 @@ abbrev μ-loop : tie.MeasureT-loop
 -- what the reader of one child found
 child-found : (c : tie.After-known-told Inv-loop μ-loop) →
     let a = c .before .before .before .before .before .before .before .args in
-    oneOf (a .table .now) (a .states) (c .before .before .before .before .before .loop .next .at) ≡ found (c .before .child .given .0 .0) (c .before .child .given .0 .1 .0 .at)
-child-found c = sym (c .before .before .before .number-of .ensures) ∙ ap asFound (c .before .child .given .1)
+    oneOf (a .table .now) (a .states) (c .before .before .before .before .before .loop .next .at) ≡ found (c .before .child .given .0 .0 .0) (c .before .child .given .0 .1 .0 .at)
+child-found c = sym (c .before .before .before .read-state .ensures) ∙ ap stateFound (c .before .child .given .1)
 
 -- src/lib.rt:136:5
 loop-holds : tie.Need-loop-holds Inv-loop μ-loop
@@ -33,19 +33,12 @@ loop-holds c =
     filling-starts (oneOf (a .table .now) (a .states)) (a .rank) (a .from) (a .place .at) (a .children .now)
 
 -- src/lib.rt:137:15
-number-of-requires : tie.Need-number-of-requires Inv-loop μ-loop
-number-of-requires c κs = search needs
+read-state-requires : tie.Need-read-state-requires Inv-loop μ-loop
+read-state-requires c κs = search needs
 
 -- src/lib.rt:138:32
 enum-known-child : tie.Need-enum-known-child Inv-loop μ-loop
 enum-known-child c = search needs
-
--- src/lib.rt:139:38
-cast-children : tie.Need-cast-children Inv-loop μ-loop
-cast-children c =
-    let a = c .before .before .before .before .before .before .before .args in
-    let small = oneOf-below (a .table .now) (c .before .before .before .before .before .loop .next .at) (a .states) (child-found c) in
-    omega (arith, small, c .before .before .before .before .before .before .before .pre .0)
 
 -- src/lib.rt:139:26
 add-children : tie.Need-add-children Inv-loop μ-loop
@@ -66,7 +59,7 @@ returns c =
     let a = c .before .before .before .before .before .before .before .args in
     let l = c .before .before .before .before .before .loop in
     filling-refused (oneOf (a .table .now) (a .states)) (a .rank) (a .from) (a .place .at) (a .children .now) (l .children) (l .children) (l .i) (l .next .at) (c .before .refusal .given .0 .0)
-    (l .inv) (c .before .before .before .before .loop-test .taken) (sym (c .before .before .before .number-of .ensures) ∙ ap asFound (c .before .refusal .given .1))
+    (l .inv) (c .before .before .before .before .loop-test .taken) (sym (c .before .before .before .read-state .ensures) ∙ ap stateFound (c .before .refusal .given .1))
 
 -- src/lib.rt:146:9
 add-i : tie.Need-add-i Inv-loop μ-loop
@@ -98,9 +91,8 @@ read-children-spec =
     Inv-loop
     μ-loop
     loop-holds
-    number-of-requires
+    read-state-requires
     enum-known-child
-    cast-children
     add-children
     element-write-children
     enum-known-refusal

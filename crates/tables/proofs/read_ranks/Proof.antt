@@ -5,7 +5,7 @@ use mathlib.Core.Path.{_≡_, refl, sym, ap, _∙_}
 use native.Mathlib.Omega.{arith}
 use Rattle.format.specs.Read.{Found, found, refused, asFound, any, within}
 use Rattle.tables.proofs.Filling.{Filling, filling-starts, filling-goes-on, filling-ends, filling-refused}
-use Rattle.tables.specs.Fill.{Small}
+use Rattle.tables.specs.Steps.{Small}
 use Rattle.tables.proofs.Bounds.{within-bounds, at-most-set}
 use borrow.Author.Needs.{needs}
 use Rattle.tables.proofs.read_ranks.Statement.{statement}
