@@ -1,3 +1,5 @@
 pub mod Bounds
 pub mod Filling
 pub mod Order
+pub mod Row
+pub mod Rows

@@ -13,6 +13,9 @@ pub record Columns : Type 0 where
   pub target : List ℕ
   pub code : List ℕ
 
+abbrev pub columns : List ℕ → List ℕ → List ℕ → List ℕ → List ℕ → Columns
+columns ranks symbol children target code = record { ranks = ranks; symbol = symbol; children = children; target = target; code = code }
+
 -- transition j of the columns
 abbrev pub rowAt : Columns → ℕ → Transition
 rowAt c j =
@@ -30,14 +33,14 @@ rowsFrom c j (suc k) = rowAt c j ∷ rowsFrom c (suc j) k
 
 -- the key of transition j, and of the one before it; below the first transition stands the empty key
 abbrev pub keyAt : List ℕ → List ℕ → List ℕ → List ℕ → ℕ → List ℕ
-keyAt ranks symbol children target j = key (rowAt (record { ranks = ranks; symbol = symbol; children = children; target = target; code = [] }) j)
+keyAt ranks symbol children target j = key (rowAt (columns ranks symbol children target []) j)
 
 abbrev pub keyBefore : List ℕ → List ℕ → List ℕ → List ℕ → ℕ → List ℕ
 keyBefore ranks symbol children target zero = []
 keyBefore ranks symbol children target (suc j) = keyAt ranks symbol children target j
 
 abbrev pub columnsOf : TableRecord → Columns
-columnsOf r = record { ranks = r .ranks; symbol = r .symbol; children = r .children; target = r .target; code = r .code }
+columnsOf r = columns (r .ranks) (r .symbol) (r .children) (r .target) (r .code)
 
 -- the table that a record is
 abbrev pub tableOf : TableRecord → Table

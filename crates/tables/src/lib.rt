@@ -10,7 +10,7 @@ ghost use mathlib.Core.List.{[]};
 ghost use lib.ListN.{length, getD, take};
 ghost use Rattle.format.specs.Read.{any, asFound, within, oneOf, listed, many, transitionAt, transitionsAt};
 ghost use Rattle.model.specs.Table.{lower};
-ghost use Rattle.tables.specs.Record.{keyAt, keyBefore};
+ghost use Rattle.tables.specs.Record.{columns, keyAt, keyBefore};
 ghost use Rattle.tables.specs.Steps.{Filled, Small, Long, RowRead, RowsRead, stateFound};
 
 // A table in memory. Of each array the first places count: as many as there are symbols, states or transitions.
@@ -201,4 +201,78 @@ fn ascends<'a>(j: usize, ranks: &'a [u8; 128], symbol: &'a [u8; 4000], children:
     let last = target[i];
     let own = target[j];
     last < own
+}
+
+// Transition j: symbol, children, target, code.
+fn read_transition(table: &[u8], place: Cursor, states: usize, symbols: usize, j: usize, ranks: &[u8; 128], symbol: &mut [u8; 4000], children: &mut [u8; 16000], target: &mut [u8; 4000], code: &mut [u32; 4000]) -> Step
+    requires { ⌜ (states ≤ 256) × (symbols ≤ 128) × (j < 4000) × Small (now ranks) × Long (columns (now ranks) (now symbol) (now children) (now target) (now code)) ⌝ }
+    ensures { λ r. ⌜ RowRead (transitionAt (now (table .entry)) (take symbols (now (ranks .entry))) states (place .at)) j
+        (columns (now (ranks .entry)) (now (symbol .entry)) (now (children .entry)) (now (target .entry)) (now (code .entry)))
+        (columns (now (ranks .entry)) (now (symbol .exit)) (now (children .exit)) (now (target .exit)) (now (code .exit))) r ⌝ }
+{
+    let mut next = place;
+    let mut rank = 0;
+    match number_of(table, next, symbols) {
+        NumberRead::Number(n, behind) => {
+            symbol[j] = n as u8;
+            rank = wide(ranks[n as usize]);
+            next = behind;
+        }
+        NumberRead::Refused(refusal) => {
+            return Step::Refused(refusal);
+        }
+    }
+    match read_children(table, next, states, rank, j * 4, children) {
+        Step::Next(behind) => {
+            next = behind;
+        }
+        Step::Refused(refusal) => {
+            return Step::Refused(refusal);
+        }
+    }
+    match read_state(table, next, states) {
+        StateRead::Read(q, behind) => {
+            target[j] = q.0;
+            next = behind;
+        }
+        StateRead::Refused(refusal) => {
+            return Step::Refused(refusal);
+        }
+    }
+    match listed_code(table, next) {
+        NumberRead::Number(n, behind) => {
+            code[j] = n;
+            next = behind;
+        }
+        NumberRead::Refused(refusal) => {
+            return Step::Refused(refusal);
+        }
+    }
+    Step::Next(next)
+}
+
+// The transitions, each above the one before.
+fn read_transitions(table: &[u8], place: Cursor, states: usize, symbols: usize, count: usize, ranks: &[u8; 128], symbol: &mut [u8; 4000], children: &mut [u8; 16000], target: &mut [u8; 4000], code: &mut [u32; 4000]) -> Step
+    requires { ⌜ (states ≤ 256) × (symbols ≤ 128) × (count ≤ 4000) × Small (now ranks) × Long (columns (now ranks) (now symbol) (now children) (now target) (now code)) ⌝ }
+    ensures { λ r. ⌜ RowsRead (transitionsAt (now (table .entry)) (take symbols (now (ranks .entry))) states count [] (place .at)) count
+        (columns (now (ranks .entry)) (now (symbol .exit)) (now (children .exit)) (now (target .exit)) (now (code .exit))) r ⌝ }
+{
+    let mut next = place;
+    let mut j = 0;
+    while j < count {
+        let first = next.at;
+        match read_transition(table, next, states, symbols, j, ranks, symbol, children, target, code) {
+            Step::Next(behind) => {
+                next = behind;
+            }
+            Step::Refused(refusal) => {
+                return Step::Refused(refusal);
+            }
+        }
+        if !ascends(j, ranks, symbol, children, target) {
+            return Step::Refused(Refusal::NotAbove(first));
+        }
+        j += 1;
+    }
+    Step::Next(next)
 }

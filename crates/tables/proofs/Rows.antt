@@ -1,0 +1,164 @@
+-- The invariant of the loop that reads the transitions: the rows in the columns so far, and what the definition finds from here on,
+-- make up what the definition finds as a whole.
+use Prim.Native.Nat.{ℕ, zero, suc, _+_, _-_, _*_, _≤_, _<_}
+use mathlib.Core.Path.{_≡_, refl, sym, ap, _∙_, subst}
+use mathlib.Core.Bool.{Bool, true, false}
+use mathlib.Core.List.{List, [], _∷_, _++_, append-nil}
+use native.Mathlib.Omega.{arith}
+use native.Mathlib.Nat.{sub-zero, add-zero, zero-add}
+use native.Mathlib.Numerals.{add-one}
+use lib.ListN.{length, take, drop, getD}
+use lib.Seq.{getD-take, take-take, take-nil, drop-nil}
+use Rattle.answers.specs.declared.Refusal.{Refusal}
+use Rattle.answers.specs.declared.Refusal.the-variants.{NotAbove}
+use Rattle.numbers.specs.declared.Cursor.{Cursor}
+use Rattle.model.specs.Table.{Transition, key, lower}
+use Rattle.format.specs.Read.{Found, found, refused, after, transitionAt, transitionsAt}
+use Rattle.tables.specs.Record.{Columns, rowAt, rowsFrom, keyAt, keyBefore}
+use Rattle.tables.specs.Steps.{Small, Kept, Long, RowRead, RowsRead}
+use Rattle.tables.specs.declared.Step.{Step}
+use Rattle.tables.specs.declared.Step.the-variants.{Next, Refused}
+use Rattle.tables.proofs.Filling.{prefixed, prefixed-none, prefixed-prefixed}
+
+-- a part of a list that ends before b is a part of its first b members
+part-of-front : {A : Type 0} (r a b : ℕ) (l : List A) → a + r ≤ b → take r (drop a (take b l)) ≡ take r (drop a l)
+part-of-front r a b [] h = rw take-nil
+part-of-front r zero b (x ∷ l) h = take-take r b (x ∷ l) (omega arith)
+part-of-front r (suc a) zero (x ∷ l) h = absurd (omega arith)
+part-of-front r (suc a) (suc b) (x ∷ l) h = part-of-front r a b l (omega arith)
+
+-- rows of the columns
+rows-same : (c d : Columns) (m k : ℕ) → ((i : ℕ) → m ≤ i → i < m + k → rowAt c i ≡ rowAt d i) → rowsFrom c m k ≡ rowsFrom d m k
+unfolding rowsFrom
+rows-same c d m zero h = refl
+rows-same c d m (suc k) h = rw (h m (omega arith) (omega arith), rows-same c d (suc m) k (λ i p q. h i (omega arith) (omega arith)))
+
+rows-snoc : (c : Columns) (m k : ℕ) → rowsFrom c m (suc k) ≡ rowsFrom c m k ++ (rowAt c (m + k) ∷ [])
+unfolding rowsFrom
+rows-snoc c m zero = rw (add-zero m)
+rows-snoc c m (suc k) = let e : m + suc k ≡ suc m + k = omega arith in rw (e) (ap (λ (l : List Transition). rowAt c m ∷ l) (rows-snoc c (suc m) k))
+
+module _ (before columns : Columns) (j : ℕ) (kept : Kept j before columns) (small : Small (before .ranks)) where
+  same-at : (l r : List ℕ) (i : ℕ) → i < j → take j l ≡ take j r → getD l i 0 ≡ getD r i 0
+  same-at l r i h e = sym (getD-take j l i 0 h) ∙ ap (λ (x : List ℕ). getD x i 0) e ∙ getD-take j r i 0 h
+
+  same-part : (r i : ℕ) → i < j → r ≤ 4 → take r (drop (i * 4) (columns .children)) ≡ take r (drop (i * 4) (before .children))
+  same-part r i h k =
+      sym (part-of-front r (i * 4) (j * 4) (columns .children) (omega arith))
+      ∙ ap (λ (x : List ℕ). take r (drop (i * 4) x)) (kept .children)
+      ∙ part-of-front r (i * 4) (j * 4) (before .children) (omega arith)
+
+  row-same : (i : ℕ) → i < j → rowAt columns i ≡ rowAt before i
+  row-same i h =
+      rw (kept .ranks, same-at (columns .symbol) (before .symbol) i h (kept .symbol),
+          same-part (getD (before .ranks) (getD (before .symbol) i 0) 0) i h (small (getD (before .symbol) i 0)),
+          same-at (columns .target) (before .target) i h (kept .target), same-at (columns .code) (before .code) i h (kept .code))
+
+  rows-kept : rowsFrom columns 0 j ≡ rowsFrom before 0 j
+  rows-kept = rows-same columns before 0 j (λ i p q. row-same i (omega arith))
+
+abbrev pub keyBelow : Columns → ℕ → List ℕ
+keyBelow c j = keyBefore (c .ranks) (c .symbol) (c .children) (c .target) j
+
+key-kept : (before columns : Columns) (j : ℕ) → Kept j before columns → Small (before .ranks) → keyBelow columns j ≡ keyBelow before j
+key-kept before columns zero kept small = refl
+key-kept before columns (suc j) kept small = ap key (row-same before columns (suc j) kept small j (omega arith))
+
+-- what a row's step says of what the definition finds
+pub record RowWent (x : Found Transition) (j : ℕ) (before columns : Columns) (next : Cursor) : Type 0 where
+  pub seen : x ≡ found (rowAt columns j) (next .at)
+  pub known : getD (columns .symbol) j 0 < 128
+  pub kept : Kept j before columns
+  pub long : Long columns
+
+pub row-next : (x : Found Transition) (j : ℕ) (before columns : Columns) (step : Step) (next : Cursor) → RowRead x j before columns step → step ≡ Next next → RowWent x j before columns next
+row-next (found t end) j before columns step next r e =
+    let same : _≡_ {A = Cursor} (record { at = end }) next = cc (r .0, e) in
+    record { seen = ap (λ (c : Cursor). found t (c .at)) same ∙ ap (λ (u : Transition). found u (next .at)) (sym (r .1)); known = r .2; kept = r .3; long = r .4 }
+row-next (refused refusal) j before columns step next r e = absurd (let z : _≡_ {A = ℕ} 0 1 = cc (r, e) in omega arith)
+
+pub row-refused : (x : Found Transition) (j : ℕ) (before columns : Columns) (step : Step) (refusal : Refusal) → RowRead x j before columns step → step ≡ Refused refusal → x ≡ refused refusal
+row-refused (found t end) j before columns step refusal r e = absurd (let z : _≡_ {A = ℕ} 0 1 = cc (r .0, e) in omega arith)
+row-refused (refused other) j before columns step refusal r e = let same : other ≡ refusal = cc (r, e) in ap refused same
+
+module _ (s ranks : List ℕ) (states : ℕ) where
+  behind-one : (t : Transition) (r : Found (List Transition)) → after r (λ ts end. found (t ∷ ts) end) ≡ prefixed (t ∷ []) r
+  behind-one t (found ts end) = refl
+  behind-one t (refused refusal) = refl
+
+  transitions-found : (k at next : ℕ) (before : List ℕ) (t : Transition) → transitionAt s ranks states at ≡ found t next → lower before (key t) ≡ true
+      → transitionsAt s ranks states (suc k) before at ≡ prefixed (t ∷ []) (transitionsAt s ranks states k (key t) next)
+  unfolding transitionsAt
+  transitions-found k at next before t e above = rw (e, above) (behind-one t (transitionsAt s ranks states k (key t) next))
+
+  transitions-refused : (k at : ℕ) (before : List ℕ) (refusal : Refusal) → transitionAt s ranks states at ≡ refused refusal
+      → transitionsAt s ranks states (suc k) before at ≡ refused refusal
+  unfolding transitionsAt
+  transitions-refused k at before refusal e = rw e
+
+  transitions-not-above : (k at next : ℕ) (before : List ℕ) (t : Transition) → transitionAt s ranks states at ≡ found t next → lower before (key t) ≡ false
+      → transitionsAt s ranks states (suc k) before at ≡ refused (NotAbove at)
+  unfolding transitionsAt
+  transitions-not-above k at next before t e above = rw (e, above)
+
+  transitions-none : (at : ℕ) (before : List ℕ) → transitionsAt s ranks states 0 before at ≡ found [] at
+  unfolding transitionsAt
+  transitions-none at before = refl
+
+-- j of the transitions are read into the columns, and the next place is `at`
+pub record Rowing (s ranks : List ℕ) (states count start : ℕ) (columns : Columns) (j at : ℕ) : Type 0 where
+  pub some : j ≤ count
+  pub long : Long columns
+  pub rest : prefixed (rowsFrom columns 0 j) (transitionsAt s ranks states (count - j) (keyBelow columns j) at) ≡ transitionsAt s ranks states count [] start
+
+module _ (s ranks : List ℕ) (states count start : ℕ) where
+  pub rowing-starts : (columns : Columns) → Long columns → Rowing s ranks states count start columns 0 start
+  unfolding rowsFrom
+  rowing-starts columns long =
+      record { some = omega arith; long = long; rest = rw (sub-zero count) (prefixed-none (transitionsAt s ranks states count [] start)) }
+
+  module _ (before columns : Columns) (j at : ℕ) (so-far : Rowing s ranks states count start before j at) (more : j < count) where
+    one-less : count - j ≡ suc (count - (j + 1))
+    one-less = omega arith
+
+    pub rowing-refused : (refusal : Refusal) → transitionAt s ranks states at ≡ refused refusal
+        → RowsRead (transitionsAt s ranks states count [] start) count columns (Refused refusal)
+    rowing-refused refusal e =
+        let whole : refused refusal ≡ transitionsAt s ranks states count [] start =
+            rw (one-less, transitions-refused s ranks states (count - (j + 1)) at (keyBelow before j) refusal e) at (so-far .rest) in
+        subst (λ (r : Found (List Transition)). RowsRead r count columns (Refused refusal)) whole refl
+
+    module _ (next : ℕ) (seen : transitionAt s ranks states at ≡ found (rowAt columns j) next) (kept : Kept j before columns) (small : Small (before .ranks)) where
+      pub rowing-not-above : lower (keyBelow columns j) (key (rowAt columns j)) ≡ false
+          → RowsRead (transitionsAt s ranks states count [] start) count columns (Refused (NotAbove at))
+      rowing-not-above low =
+          let low′ : lower (keyBelow before j) (key (rowAt columns j)) ≡ false = rw (key-kept before columns j kept small) at low in
+          let whole : refused (NotAbove at) ≡ transitionsAt s ranks states count [] start =
+              rw (one-less, transitions-not-above s ranks states (count - (j + 1)) at next (keyBelow before j) (rowAt columns j) seen low′) at (so-far .rest) in
+          subst (λ (r : Found (List Transition)). RowsRead r count columns (Refused (NotAbove at))) whole refl
+
+      pub rowing-goes-on : lower (keyBelow columns j) (key (rowAt columns j)) ≡ true → Long columns → Rowing s ranks states count start columns (j + 1) next
+      rowing-goes-on high long =
+          let high′ : lower (keyBelow before j) (key (rowAt columns j)) ≡ true = rw (key-kept before columns j kept small) at high in
+          let rows : rowsFrom columns 0 (j + 1) ≡ rowsFrom before 0 j ++ (rowAt columns j ∷ []) =
+              rw (add-one j, rows-snoc columns 0 j, zero-add j, rows-kept before columns j kept small) in
+          let below : keyBelow columns (j + 1) ≡ key (rowAt columns j) = rw (add-one j) in
+          record {
+              some = omega arith;
+              long = long;
+              rest =
+                  rw (rows, below, ← prefixed-prefixed (rowsFrom before 0 j) (rowAt columns j ∷ []) (transitionsAt s ranks states (count - (j + 1)) (key (rowAt columns j)) next),
+                      ← transitions-found s ranks states (count - (j + 1)) at next (keyBelow before j) (rowAt columns j) seen high′, ← one-less)
+                  (so-far .rest)
+          }
+
+  pub rowing-ends : (columns : Columns) (j at : ℕ) → Rowing s ranks states count start columns j at → count ≤ j
+      → RowsRead (transitionsAt s ranks states count [] start) count columns (Next (record { at = at }))
+  rowing-ends columns j at so-far h =
+      let some = so-far .some in
+      let all : j ≡ count = omega arith in
+      let none : count - j ≡ 0 = omega arith in
+      let whole : found (rowsFrom columns 0 j ++ []) at ≡ transitionsAt s ranks states count [] start =
+          rw (none, transitions-none s ranks states at (keyBelow columns j)) at (so-far .rest) in
+      subst (λ (r : Found (List Transition)). RowsRead r count columns (Next (record { at = at }))) whole
+      (refl, rw (append-nil, all))

@@ -1,0 +1,72 @@
+-- Document 01's worked examples, proved of the definitions.
+use mathlib.Core.Path.{_≡_, refl}
+use mathlib.Core.List.{List, [], _∷_}
+use Prim.Native.Nat.{ℕ}
+use lib.IntN.{pos, negℤ}
+use Rattle.model.specs.Table.{Table, Transition}
+use Rattle.model.specs.Tree.{Tree, node, none, _then_}
+use Rattle.theory.specs.MaxPlus.{number}
+use Rattle.theory.specs.Arithmetic.{meaning}
+use Rattle.theory.specs.Weight.{weightAt, weight, value}
+use Rattle.theory.specs.Sheet.{sheet}
+
+-- the symbols: a = 0 of rank 0, g = 1 of rank 1
+abbrev a→ : ℕ → ℕ → Transition
+a→ q c = record { symbol = 0; children = []; target = q; code = c }
+
+abbrev g→ : ℕ → ℕ → ℕ → Transition
+g→ p q c = record { symbol = 1; children = p ∷ []; target = q; code = c }
+
+abbrev table : ℕ → ℕ → List ℕ → List Transition → Table
+table a n fs ts = record { arithmetic = a; states = n; ranks = 0 ∷ 1 ∷ []; finals = fs; transitions = ts }
+
+-- the tree g(a)
+abbrev pub g·a : Tree
+g·a = node 1 (_then_ (node 0 none) none)
+
+abbrev pub tableA : Table
+tableA = table 0 3 (0 ∷ 0 ∷ 1 ∷ []) (a→ 0 3 ∷ a→ 1 3 ∷ g→ 0 2 5 ∷ g→ 1 2 7 ∷ [])
+
+-- P2's table
+abbrev pub tableA-collapsed : Table
+tableA-collapsed = table 0 2 (0 ∷ 1 ∷ []) (a→ 0 3 ∷ g→ 0 1 12 ∷ [])
+
+-- as A, with codes 3, 4, 5, 5
+abbrev pub tableB : Table
+tableB = table 0 3 (0 ∷ 0 ∷ 1 ∷ []) (a→ 0 3 ∷ a→ 1 4 ∷ g→ 0 2 5 ∷ g→ 1 2 5 ∷ [])
+
+-- A's weights 3, 3, 5, 7 and finals nothing, nothing, 0 in arithmetic 1
+abbrev pub tableC : Table
+tableC = table 1 3 (0 ∷ 0 ∷ 1 ∷ []) (a→ 0 7 ∷ a→ 1 7 ∷ g→ 0 2 11 ∷ g→ 1 2 15 ∷ [])
+
+abbrev pub tableD : Table
+tableD = table 0 3 (0 ∷ 1 ∷ 1 ∷ []) (a→ 0 1 ∷ g→ 0 1 2147483648 ∷ g→ 0 2 2147483648 ∷ [])
+
+abbrev pub tableE : Table
+tableE = table 0 4 (0 ∷ 0 ∷ 0 ∷ 1 ∷ []) (a→ 0 1 ∷ g→ 0 1 1 ∷ g→ 1 2 1 ∷ g→ 2 3 1 ∷ [])
+
+-- P9's table: one state, no transitions, final weight 5
+abbrev pub tableF : Table
+tableF = table 0 1 (5 ∷ []) []
+
+-- 01's list
+pub record Examples : Type 0 where
+  pub p4-weight : value tableA g·a ≡ number (pos 36)
+  pub p4-collapsed : value tableA-collapsed g·a ≡ number (pos 36)
+  pub p4-sheet : sheet 0 tableA g·a ≡ pos 0 ∷ pos 0 ∷ pos 36 ∷ pos 3 ∷ pos 3 ∷ pos 0 ∷ []
+  pub p5-weight : value tableB g·a ≡ number (pos 35)
+  pub p6-weight : value tableC g·a ≡ number (pos 10)
+  pub p7-weight : value tableD g·a ≡ number (pos 0)
+  pub p9-weight : value tableF g·a ≡ number (pos 0)
+  pub p10-1 : meaning 1 1 ≡ number (pos 0)
+  pub p10-2 : meaning 1 2 ≡ number (negℤ (pos 1))
+  pub p10-3 : meaning 1 3 ≡ number (pos 1)
+  pub p10-4 : meaning 1 4 ≡ number (negℤ (pos 2))
+  pub p10-greatest : meaning 1 4294967295 ≡ number (pos 2147483647)
+  pub p10-least : meaning 1 4294967294 ≡ number (negℤ (pos 2147483647))
+
+pub examples : Examples
+unfolding value weight weightAt sheet
+examples = record {
+    p4-weight = refl; p4-collapsed = refl; p4-sheet = refl; p5-weight = refl; p6-weight = refl; p7-weight = refl; p9-weight = refl;
+    p10-1 = refl; p10-2 = refl; p10-3 = refl; p10-4 = refl; p10-greatest = refl; p10-least = refl }

@@ -1,0 +1,1 @@
+// Definitions and laws only: arithmetics, sums, weights, bisimulations, collapses. No code.
