@@ -4,3 +4,6 @@ pub mod Sequences
 pub mod Readers
 pub mod Transitions
 pub mod Tables
+pub mod Length
+pub mod Reach
+pub mod Longest

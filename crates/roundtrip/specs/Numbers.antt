@@ -7,7 +7,7 @@ use native.Mathlib.Nat.{one-le-pow}
 use native.Mathlib.Numerals.{add-one}
 use native.Mathlib.Decide.{decLt}
 use lib.ListN.{length, getD, drop, length-drop}
-use lib.Seq.{drop-cons}
+use lib.Seq.{drop-cons, drop-drop, drop-at}
 use borrow.Author.Tests.{lt-ltb, le-ltb}
 use Rattle.answers.specs.declared.Refusal.{Refusal}
 use Rattle.model.specs.Table.{Each}
@@ -27,6 +27,7 @@ unfolding groups
 groups-last zero n h = groups-zero n
 groups-last (suc g) n h = simp (groups, lt-ltb n 128 h)
 
+-- a greater one is its lowest seven bits, marked, and the groups of the rest
 pub groups-more : (g n : ℕ) → 128 ≤ n → groups (suc g) n ≡ (128 + n % 128) ∷ groups g (n / 128)
 unfolding groups
 groups-more g n h = simp (groups, le-ltb n 128 h)
@@ -81,6 +82,7 @@ same-number : (n m p q : ℕ) (r : NumberRead) → r ≡ number m q → r ≡ nu
 same-number n m p q r e e₁ = let next : _≡_ {A = Cursor} (record { at = p }) (record { at = q }) = cc in (cc, ap (λ (c : Cursor). c .at) next)
 
 module _ (s : List ℕ) (small : (i : ℕ) → getD s i 0 < 256) where
+  -- the bytes after the first
   more-sound : (g first at n p : ℕ) → moreFrom g s first at ≡ number n p → Stands s at (groups g n) p × (0 < n) × (n < 16 * 128 ^ g)
   more-sound zero first at n p e =
       let h : at < length s = more-inside s 0 first at n p e in
@@ -104,6 +106,7 @@ module _ (s : List ℕ) (small : (i : ℕ) → getD s i 0 < 256) where
             (more-stands s at n p g (split .0) h (omega arith) (small at) (split .2) (rest .1) (rest .0), omega (arith, split .2, rest .1), omega (arith, split .2, rest .2, small at))
       ]
 
+  -- a number that is read is below 2^32, and its written form stands there, up to the next place
   pub number-sound : (at n p : ℕ) → numberAt s at ≡ number n p → Stands s at (written n) p × (n < 2 ^ 32)
   number-sound at n p e =
       elim (decLt at (length s)) [
@@ -119,6 +122,10 @@ module _ (s : List ℕ) (small : (i : ℕ) → getD s i 0 < 256) where
             ]
         | no h ↦ absurd (never _ _ n p (number-ends s at (omega arith)) e)
       ]
+
+-- what stands behind bytes
+pub drop-behind : (s : List ℕ) (at : ℕ) (bytes rest : List ℕ) → drop at s ≡ bytes ++ rest → drop (at + length bytes) s ≡ rest
+drop-behind s at bytes rest e = sym (drop-drop (length bytes) at s) ∙ ap (drop (length bytes)) e ∙ drop-at bytes rest (length bytes) refl
 
 -- the first of the bytes that stand at a place, and the others
 first-byte : (s : List ℕ) (at byte : ℕ) (bytes : List ℕ) → drop at s ≡ byte ∷ bytes
@@ -136,6 +143,7 @@ module _ (s : List ℕ) where
       ap (below (128 + n % 128 - 128)) e
       ∙ ap₂ number (omega arith) (simp (groups-more g n l) (omega arith))
 
+  -- the bytes after the first
   more-complete : (g first at n : ℕ) (rest : List ℕ) → 0 < n → n < 16 * 128 ^ g → drop at s ≡ groups g n ++ rest
       → moreFrom g s first at ≡ number n (at + length (groups g n))
   more-complete zero first at n rest some few e =
@@ -152,6 +160,7 @@ module _ (s : List ℕ) where
             ∙ more-read g first at n (omega arith) (more-complete g first (at + 1) (n / 128) rest (omega arith) (omega arith) behind)
       ]
 
+  -- a number below 2^32 whose written form stands at a place is read there
   pub number-complete : (at n : ℕ) (rest : List ℕ) → n < 2 ^ 32 → drop at s ≡ written n ++ rest → numberAt s at ≡ number n (at + length (written n))
   number-complete at n rest few e =
       elim (decLt n 128) [

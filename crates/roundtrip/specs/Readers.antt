@@ -83,26 +83,31 @@ abbrev pub itself : ℕ → List ℕ
 itself n = n ∷ []
 
 module _ (s : List ℕ) (small : (i : ℕ) → getD s i 0 < 256) where
+  -- a number of at most five bytes
   pub any-reader : Reader s (λ n. n < 2 ^ 32) itself (any s)
   any-reader = record {
     sound = λ at n p e. let e₁ = number-found (numberAt s at) n p e in (number-sound s small at n p e₁ .1, (p, e₁, refl));
     complete = λ at n p h reads. ap asFound (reads .1) ∙ ap (found n) (reads .2);
   }
 
+  -- a number with a test, its condition said in other words
   tested-number : (Q : ℕ → Type 0) (test : ℕ → Bool) (refusal : ℕ → Refusal) → ((n : ℕ) → (n < 2 ^ 32) × T (test n) → Q n)
       → ((n : ℕ) → Q n → (n < 2 ^ 32) × T (test n)) → Reader s Q itself (λ at. after (any s at) (λ n next. provided (test n) (refusal at) (found n next)))
   tested-number Q test refusal there back =
       reader-said s itself _ (λ n. (n < 2 ^ 32) × T (test n)) Q there back (tested s itself (any s) (λ n. n < 2 ^ 32) test refusal any-reader)
 
+  -- a number from low to high
   pub within-reader : (low high : ℕ) → high < 2 ^ 32 → Reader s (λ n. (low ≤ n) × (n ≤ high)) itself (within s low high)
   within-reader low high h =
       tested-number (λ n. (low ≤ n) × (n ≤ high)) (λ n. leb low n && leb n high) OutOfRange
       (λ n k. let (a, b) = T-both (leb low n) (leb n high) (k .1) in (leb→le low n a, leb→le n high b))
       (λ n k. (omega arith, both-T (leb low n) (leb n high) (le→leb low n (k .0)) (le→leb n high (k .1))))
 
+  -- the number of one of `limit` symbols or states
   pub oneOf-reader : (limit : ℕ) → limit ≤ 2 ^ 32 → Reader s (λ n. n < limit) itself (oneOf s limit)
   oneOf-reader limit h = tested-number (λ n. n < limit) (λ n. ltb n limit) NotInTable (λ n k. ltb→lt n limit (k .1)) (λ n k. (omega arith, lt→ltb n limit k))
 
+  -- the code of a listed weight
   pub listed-reader : Reader s (λ n. (0 < n) × (n < 2 ^ 32)) itself (listed s)
   listed-reader = tested-number (λ n. (0 < n) × (n < 2 ^ 32)) (λ n. ltb 0 n) ZeroCode (λ n k. (ltb→lt 0 n (k .1), k .0)) (λ n k. (k .1, lt→ltb 0 n (k .0)))
 

@@ -4,12 +4,11 @@ use mathlib.Core.Path.{_≡_, refl, sym, ap, _∙_, subst}
 use mathlib.Core.List.{List, [], _∷_, _++_, append-assoc}
 use native.Mathlib.Omega.{arith}
 use lib.ListN.{length, getD, drop, length-append}
-use lib.Seq.{drop-drop, drop-at}
 use Rattle.model.specs.Table.{Each}
 use Rattle.numbers.specs.Read.{number, numberAt}
 use Rattle.numbers.specs.Written.{written, writtenAll}
 use Rattle.roundtrip.specs.Members.{each-append}
-use Rattle.roundtrip.specs.Numbers.{Stands, number-sound, number-complete, written-bytes}
+use Rattle.roundtrip.specs.Numbers.{Stands, number-sound, number-complete, drop-behind, written-bytes}
 
 -- from `at` up to `p` these numbers are read, one after another
 abbrev pub Reads : List ℕ → ℕ → List ℕ → ℕ → Type 0
@@ -17,6 +16,7 @@ Reads s at [] p = at ≡ p
 Reads s at (n ∷ ns) p = (next : ℕ) × (numberAt s at ≡ number n next) × Reads s next ns p
 
 module _ (s : List ℕ) where
+  -- what is read in two parts is read in one go, and the other way round
   pub reads-append : (ms ns : List ℕ) (at middle p : ℕ) → Reads s at ms middle → Reads s middle ns p → Reads s at (ms ++ ns) p
   reads-append [] ns at middle p r q = subst (λ (k : ℕ). Reads s k ns p) (sym r) q
   reads-append (m ∷ ms) ns at middle p r q = (r .0, r .1, reads-append ms ns (r .0) middle p (r .2) q)
@@ -26,6 +26,13 @@ module _ (s : List ℕ) where
   reads-split [] ns at p r k = k at refl r
   reads-split (m ∷ ms) ns at p r k = reads-split ms ns (r .0) p (r .2) λ middle before behind. k middle (r .0, r .1, before) behind
 
+  -- where the reading ends
+  pub reads-end : ((i : ℕ) → getD s i 0 < 256) → (ns : List ℕ) (at p : ℕ) → Reads s at ns p → p ≡ at + length (writtenAll ns)
+  reads-end small [] at p r = omega arith
+  reads-end small (n ∷ ns) at p r =
+      let here : Stands s at (written n) (r .0) = number-sound s small at n (r .0) (r .1) .0 in
+      omega (arith, here .behind, reads-end small ns (r .0) p (r .2), length-append (written n) (writtenAll ns))
+
   -- what is read is written there
   pub reads-stand : ((i : ℕ) → getD s i 0 < 256) → (ns : List ℕ) (at p : ℕ) → at ≤ length s → Reads s at ns p → Stands s at (writtenAll ns) p
   reads-stand small [] at p h r = record { there = ap (λ (k : ℕ). drop k s) r; behind = omega arith; inside = omega arith }
@@ -34,7 +41,7 @@ module _ (s : List ℕ) where
       let rest : Stands s (r .0) (writtenAll ns) p = reads-stand small ns (r .0) p (here .inside) (r .2) in
       record {
         there = here .there ∙ ap (_++_ (written n)) (rest .there) ∙ sym (append-assoc (written n) (writtenAll ns) (drop p s));
-        behind = omega (arith, here .behind, rest .behind, length-append (written n) (writtenAll ns));
+        behind = reads-end small (n ∷ ns) at p r;
         inside = rest .inside;
       }
 
@@ -44,8 +51,7 @@ module _ (s : List ℕ) where
   written-reads [] at rest h e = omega arith
   written-reads (n ∷ ns) at rest h e =
       let here : drop at s ≡ written n ++ (writtenAll ns ++ rest) = e ∙ append-assoc (written n) (writtenAll ns) rest in
-      let behind : drop (at + length (written n)) s ≡ writtenAll ns ++ rest =
-      sym (drop-drop (length (written n)) at s) ∙ ap (drop (length (written n))) here ∙ drop-at (written n) (writtenAll ns ++ rest) (length (written n)) refl in (
+      let behind : drop (at + length (written n)) s ≡ writtenAll ns ++ rest = drop-behind s at (written n) (writtenAll ns ++ rest) here in (
         at + length (written n),
         number-complete s at n (writtenAll ns ++ rest) (h .0) here,
         subst (Reads s (at + length (written n)) ns) (omega (arith, length-append (written n) (writtenAll ns)))

@@ -22,7 +22,7 @@ abbrev Told : List ℕ → Table → ℕ → Type 0
 Told s X p = Proper X × Reads s 0 (tableNumbers X) p × (length s ≤ p)
 
 module _ (s : List ℕ) (small : (i : ℕ) → getD s i 0 < 256) where
-  ranks-reader : (k : ℕ) → Reader s (λ ns. (length ns ≡ k) × Each (λ n. (0 ≤ n) × (n ≤ 4)) ns) (λ ns. ns) (many (within s 0 4) k)
+  pub ranks-reader : (k : ℕ) → Reader s (λ ns. (length ns ≡ k) × Each (λ n. (0 ≤ n) × (n ≤ 4)) ns) (λ ns. ns) (many (within s 0 4) k)
   ranks-reader k = many-reader s (λ n. (0 ≤ n) × (n ≤ 4)) (within s 0 4) (within-reader s small 0 4 (omega arith)) k
 
   finals-reader : (k : ℕ) → Reader s (λ ns. (length ns ≡ k) × Each (λ n. n < 2 ^ 32) ns) (λ ns. ns) (many (any s) k)

@@ -62,6 +62,7 @@ module _ (s : List ℕ) (small : (i : ℕ) → getD s i 0 < 256) (ranks : List �
       (go-on (oneOf s states at₂) _ (state-reader .complete at₂ (t .target) at₃ (h .target-known) reads₃)
       (go-on (listed s at₃) _ (listed-reader s small .complete at₃ (t .code) p (h .code-positive, h .code-fits) reads₄) refl)))
 
+  -- a proper transition
   pub transition-reader : Reader s (ProperTransition ranks states) transitionNumbers (transitionAt s ranks states)
   transition-reader = record { sound = transition-sound; complete = transition-complete }
 
@@ -90,5 +91,6 @@ module _ (s : List ℕ) (small : (i : ℕ) → getD s i 0 < 256) (ranks : List �
       (go-on-under (lower before (key t)) (NotAbove at) _ (h .2 .0)
       (go-on (transitionsAt s ranks states k (key t) next) _ (transitions-complete k (key t) next ts p (omega (arith, h .0), h .1 .1, h .2 .1) there) refl))
 
+  -- so many proper transitions, ascending
   pub transitions-reader : (k : ℕ) (before : List ℕ) → Reader s (Ascent ranks states k before) transitionsNumbers (transitionsAt s ranks states k before)
   transitions-reader k before = record { sound = transitions-sound k before; complete = transitions-complete k before }

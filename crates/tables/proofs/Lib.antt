@@ -3,3 +3,4 @@ pub mod Filling
 pub mod Order
 pub mod Row
 pub mod Rows
+pub mod Whole

@@ -111,3 +111,8 @@ module _ (ranks symbol children stored target code : List ℕ) (j σ q w : ℕ) 
           target = length-set target j q ∙ long .target;
           code = length-set code j w ∙ long .code
       }
+
+-- the numbers found are the first so many of the array
+pub went-taken : (item : ℕ → Found ℕ) (k at : ℕ) (before array : List ℕ) (next : Cursor) → Went (many item k at) 0 before array next → many item k at ≡ found (take k array) (next .at)
+went-taken item k at before array next w =
+    w .seen ∙ ap (λ (l : List ℕ). found l (next .at)) (sym (w .stand) ∙ ap (λ (i : ℕ). take i array) (many-length item k at (w .seen)))

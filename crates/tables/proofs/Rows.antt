@@ -162,3 +162,16 @@ module _ (s ranks : List ℕ) (states count start : ℕ) where
           rw (none, transitions-none s ranks states at (keyBelow columns j)) at (so-far .rest) in
       subst (λ (r : Found (List Transition)). RowsRead r count columns (Next (record { at = at }))) whole
       (refl, rw (append-nil, all))
+
+-- what the step of all rows says of what the definition finds
+pub rows-next : (x : Found (List Transition)) (count : ℕ) (columns : Columns) (step : Step) (next : Cursor) → RowsRead x count columns step → step ≡ Next next
+    → x ≡ found (rowsFrom columns 0 count) (next .at)
+rows-next (found ts end) count columns step next r e =
+    let same : _≡_ {A = Cursor} (record { at = end }) next = cc (r .0, e) in
+    ap (λ (c : Cursor). found ts (c .at)) same ∙ ap (λ (us : List Transition). found us (next .at)) (sym (r .1))
+rows-next (refused refusal) count columns step next r e = absurd (let z : _≡_ {A = ℕ} 0 1 = cc (r, e) in omega arith)
+
+pub rows-refused : (x : Found (List Transition)) (count : ℕ) (columns : Columns) (step : Step) (refusal : Refusal) → RowsRead x count columns step → step ≡ Refused refusal
+    → x ≡ refused refusal
+rows-refused (found ts end) count columns step refusal r e = absurd (let z : _≡_ {A = ℕ} 0 1 = cc (r .0, e) in omega arith)
+rows-refused (refused other) count columns step refusal r e = let same : other ≡ refusal = cc (r, e) in ap refused same

@@ -1,5 +1,6 @@
 -- Which table a table record is.
 use Prim.Native.Nat.{ℕ, zero, suc, _*_}
+use mathlib.Core.Path.{_≡_}
 use mathlib.Core.List.{List, [], _∷_}
 use lib.ListN.{length, getD, take, drop}
 use Rattle.model.specs.Table.{Table, Transition, key}
@@ -39,16 +40,22 @@ abbrev pub keyBefore : List ℕ → List ℕ → List ℕ → List ℕ → ℕ �
 keyBefore ranks symbol children target zero = []
 keyBefore ranks symbol children target (suc j) = keyAt ranks symbol children target j
 
-abbrev pub columnsOf : TableRecord → Columns
-columnsOf r = columns (r .ranks) (r .symbol) (r .children) (r .target) (r .code)
+-- the table that these numbers, ranks, final codes and columns are
+abbrev pub tableIn : ℕ → ℕ → ℕ → ℕ → List ℕ → Columns → Table
+tableIn arithmetic states symbols count finals c =
+    record {
+        arithmetic = arithmetic;
+        states = states;
+        ranks = take symbols (c .ranks);
+        finals = take states finals;
+        transitions = rowsFrom c 0 count
+    }
 
 -- the table that a record is
 abbrev pub tableOf : TableRecord → Table
-tableOf r =
-    record {
-        arithmetic = r .arithmetic;
-        states = r .states;
-        ranks = take (r .symbols) (r .ranks);
-        finals = take (r .states) (r .finals);
-        transitions = rowsFrom (columnsOf r) 0 (r .count)
-    }
+tableOf r = tableIn (r .arithmetic) (r .states) (r .symbols) (r .count) (r .finals) (columns (r .ranks) (r .symbol) (r .children) (r .target) (r .code))
+
+-- this record is that table
+pub record Holds (r : TableRecord) (X : Table) : Type 0 where
+  pub table : tableOf r ≡ X
+  pub symbols : r .symbols ≡ length (X .ranks)

@@ -3,9 +3,16 @@ use Prim.Native.Nat.{ℕ, _≤_, _<_, _*_}
 use mathlib.Core.Path.{_≡_}
 use mathlib.Core.List.{List}
 use lib.ListN.{length, getD, take, drop}
-use Rattle.format.specs.Read.{Found, found, refused}
-use Rattle.model.specs.Table.{Transition}
-use Rattle.tables.specs.Record.{Columns, rowAt, rowsFrom}
+use Rattle.format.specs.Read.{Found, found, refused, within, tableRead}
+use Rattle.model.specs.Table.{Table, Transition}
+use Rattle.tables.specs.Record.{Columns, rowAt, rowsFrom, tableIn, Holds}
+use Rattle.tables.specs.declared.Header.{Header}
+use Rattle.tables.specs.declared.HeaderRead.{HeaderRead}
+use Rattle.tables.specs.declared.HeaderRead.the-variants as header
+use Rattle.tables.specs.declared.BodyRead.{BodyRead}
+use Rattle.tables.specs.declared.BodyRead.the-variants as body
+use Rattle.tables.specs.declared.Reading.{Reading}
+use Rattle.answers.specs.declared.Answer.the-variants as answer
 use Rattle.tables.specs.declared.StateRead.{StateRead}
 use Rattle.tables.specs.declared.StateRead.the-variants as state
 use Rattle.tables.specs.declared.Step.{Step}
@@ -52,3 +59,30 @@ RowRead (refused refusal) j before columns step = step ≡ Refused refusal
 abbrev pub RowsRead : Found (List Transition) → ℕ → Columns → Step → Type 0
 RowsRead (found ts end) count columns step = (step ≡ Next (record { at = end })) × (rowsFrom columns 0 count ≡ ts)
 RowsRead (refused refusal) count columns step = step ≡ Refused refusal
+
+-- the three numbers of the header, one behind the other
+pub record HeaderFound (s : List ℕ) (h : Header) : Type 0 where
+  pub second : ℕ
+  pub third : ℕ
+  pub arithmetic : within s 0 1 0 ≡ found (h .arithmetic) second
+  pub states : within s 1 256 second ≡ found (h .states) third
+  pub symbols : within s 1 128 third ≡ found (h .symbols) (h .next .at)
+
+abbrev pub HeaderIs : List ℕ → HeaderRead → Type 0
+HeaderIs s (header.Read h) = HeaderFound s h
+HeaderIs s (header.Refused refusal) = tableRead s ≡ refused refusal
+
+-- the whole table is in the arrays
+pub record BodyFound (s : List ℕ) (h : Header) (finals : List ℕ) (columns : Columns) (count : ℕ) : Type 0 where
+  pub end : ℕ
+  pub table : tableRead s ≡ found (tableIn (h .arithmetic) (h .states) (h .symbols) count finals columns) end
+  pub symbols : h .symbols ≡ length (take (h .symbols) (columns .ranks))
+
+abbrev pub BodyIs : List ℕ → Header → List ℕ → Columns → BodyRead → Type 0
+BodyIs s h finals columns (body.Count count) = BodyFound s h finals columns count
+BodyIs s h finals columns (body.Refused refusal) = tableRead s ≡ refused refusal
+
+-- the reader's promise: the record is the table that the bytes are, or the refusal is the one that the definition gives
+abbrev pub ReadingIs : Found Table → Reading → Type 0
+ReadingIs (found X end) r = (r .answer ≡ answer.Done (X .states)) × Holds (r .table) X
+ReadingIs (refused refusal) r = r .answer ≡ answer.Refused refusal

@@ -8,10 +8,10 @@ ghost use mathlib.Core.Path.{_≡_};
 ghost use Prim.Native.Nat.{ℕ, _+_, _*_, _≤_, _<_};
 ghost use mathlib.Core.List.{[]};
 ghost use lib.ListN.{length, getD, take};
-ghost use Rattle.format.specs.Read.{any, asFound, within, oneOf, listed, many, transitionAt, transitionsAt};
+ghost use Rattle.format.specs.Read.{any, asFound, within, oneOf, listed, many, transitionAt, transitionsAt, tableRead};
 ghost use Rattle.model.specs.Table.{lower};
 ghost use Rattle.tables.specs.Record.{columns, keyAt, keyBefore};
-ghost use Rattle.tables.specs.Steps.{Filled, Small, Long, RowRead, RowsRead, stateFound};
+ghost use Rattle.tables.specs.Steps.{Filled, Small, Long, RowRead, RowsRead, stateFound, HeaderFound, HeaderIs, BodyIs, ReadingIs};
 
 // A table in memory. Of each array the first places count: as many as there are symbols, states or transitions.
 pub struct TableRecord {
@@ -275,4 +275,148 @@ fn read_transitions(table: &[u8], place: Cursor, states: usize, symbols: usize, 
         j += 1;
     }
     Step::Next(next)
+}
+
+// The numbers before the ranks.
+pub struct Header {
+    pub arithmetic: u32,
+    pub states: usize,
+    pub symbols: usize,
+    pub next: Cursor,
+}
+
+pub enum HeaderRead {
+    Read(Header),
+    Refused(Refusal),
+}
+
+fn read_header(table: &[u8]) -> HeaderRead
+    ensures { λ r. ⌜ HeaderIs (now (table .entry)) r ⌝ }
+{
+    let mut next = Cursor { at: 0 };
+    let mut arithmetic = 0;
+    let mut states = 0;
+    match number_within(table, next, 0, 1) {
+        NumberRead::Number(n, behind) => {
+            arithmetic = n;
+            next = behind;
+        }
+        NumberRead::Refused(refusal) => {
+            return HeaderRead::Refused(refusal);
+        }
+    }
+    match number_within(table, next, 1, 256) {
+        NumberRead::Number(n, behind) => {
+            states = n as usize;
+            next = behind;
+        }
+        NumberRead::Refused(refusal) => {
+            return HeaderRead::Refused(refusal);
+        }
+    }
+    match number_within(table, next, 1, 128) {
+        NumberRead::Number(n, behind) => HeaderRead::Read(Header { arithmetic, states, symbols: n as usize, next: behind }),
+        NumberRead::Refused(refusal) => HeaderRead::Refused(refusal),
+    }
+}
+
+// How many transitions there are, or the refusal.
+pub enum BodyRead {
+    Count(usize),
+    Refused(Refusal),
+}
+
+// What stands behind the header, into the arrays of a record.
+fn read_body(table: &[u8], header: Header, ranks: &mut [u8; 128], finals: &mut [u32; 256], symbol: &mut [u8; 4000], children: &mut [u8; 16000], target: &mut [u8; 4000], code: &mut [u32; 4000]) -> BodyRead
+    requires { ⌜ HeaderFound (now table) header × Small (now ranks) × (length (now finals) ≡ 256) × Long (columns (now ranks) (now symbol) (now children) (now target) (now code)) ⌝ }
+    ensures { λ r. ⌜ BodyIs (now (table .entry)) header (now (finals .exit)) (columns (now (ranks .exit)) (now (symbol .exit)) (now (children .exit)) (now (target .exit)) (now (code .exit))) r ⌝ }
+{
+    let states = header.states;
+    let symbols = header.symbols;
+    let mut next = header.next;
+    let mut count = 0;
+    match read_ranks(table, next, symbols, ranks) {
+        Step::Next(behind) => {
+            next = behind;
+        }
+        Step::Refused(refusal) => {
+            return BodyRead::Refused(refusal);
+        }
+    }
+    match read_finals(table, next, states, finals) {
+        Step::Next(behind) => {
+            next = behind;
+        }
+        Step::Refused(refusal) => {
+            return BodyRead::Refused(refusal);
+        }
+    }
+    match number_within(table, next, 0, 4000) {
+        NumberRead::Number(n, behind) => {
+            count = n as usize;
+            next = behind;
+        }
+        NumberRead::Refused(refusal) => {
+            return BodyRead::Refused(refusal);
+        }
+    }
+    match read_transitions(table, next, states, symbols, count, ranks, symbol, children, target, code) {
+        Step::Next(behind) => {
+            next = behind;
+        }
+        Step::Refused(refusal) => {
+            return BodyRead::Refused(refusal);
+        }
+    }
+    let end = next.at;
+    if end < table.len() {
+        return BodyRead::Refused(Refusal::TableGoesOn(end));
+    }
+    BodyRead::Count(count)
+}
+
+// A table read from bytes: done with the number of states, or refused; the record counts only if it is done.
+pub struct Reading {
+    pub answer: Answer,
+    pub table: TableRecord,
+}
+
+pub fn read(table: &[u8]) -> Reading
+    ensures { λ r. ⌜ ReadingIs (tableRead (now (table .entry))) r ⌝ }
+{
+    let mut ranks = [0u8; 128];
+    let mut finals = [0u32; 256];
+    let mut symbol = [0u8; 4000];
+    let mut children = [0u8; 16000];
+    let mut target = [0u8; 4000];
+    let mut code = [0u32; 4000];
+    match read_header(table) {
+        HeaderRead::Read(header) => {
+            match read_body(table, header, &mut ranks, &mut finals, &mut symbol, &mut children, &mut target, &mut code) {
+                BodyRead::Count(count) => Reading {
+                    answer: Answer::Done(header.states),
+                    table: TableRecord {
+                        arithmetic: header.arithmetic,
+                        states: header.states,
+                        symbols: header.symbols,
+                        count,
+                        ranks,
+                        finals,
+                        symbol,
+                        children,
+                        target,
+                        code,
+                    },
+                },
+                BodyRead::Refused(refusal) => Reading {
+                    answer: Answer::Refused(refusal),
+                    table: TableRecord { arithmetic: 0, states: 0, symbols: 0, count: 0, ranks, finals, symbol, children, target, code },
+                },
+            }
+        }
+        HeaderRead::Refused(refusal) => Reading {
+            answer: Answer::Refused(refusal),
+            table: TableRecord { arithmetic: 0, states: 0, symbols: 0, count: 0, ranks, finals, symbol, children, target, code },
+        },
+    }
 }

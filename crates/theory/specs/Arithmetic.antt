@@ -1,18 +1,19 @@
 -- The two arithmetics, and what the codes 0 to 4,294,967,295 mean in each (document 01, "Two arithmetics").
-use mathlib.Core.Path.{_≡_, refl, sym, ap, _∙_, subst}
+use mathlib.Core.Path.{_≡_, refl, sym, ap, _∙_}
 use mathlib.Core.Logic.{_≢_, _↔_}
 use mathlib.Core.Bool.{Bool, true, false, cond}
-use mathlib.Core.List.{List, [], _∷_}
+use mathlib.Core.List.{List}
 use Prim.Native.Nat.{ℕ, zero, suc, _+_, _*_, _/_, _%_, _^_, _<_, _≤_}
 use native.Mathlib.Omega.{arith}
 use native.Mathlib.Nat.{mod-eq-of-lt}
-use lib.Dec.{T, eqb, eqb→eq}
+use lib.Dec.{eqb, eqb→eq}
 use lib.IntN.{ℤ, pos, negsuc, negℤ, natAbs}
+use Rattle.model.specs.Table.{Each}
 use Rattle.theory.specs.Equality.{numbers, false-differ, of-true}
 use Rattle.theory.specs.Semiring.{Semiring}
-use Rattle.theory.specs.Sum.{sum}
-use Rattle.theory.specs.Modular.{modular, Residue, residue, residue-same, residue-number}
-use Rattle.theory.specs.Maximum.{maxZ, maxZ-both}
+use Rattle.theory.specs.Sum.{sum, sum-holds}
+use Rattle.theory.specs.Modular.{modular, residue, residue-same, residue-number}
+use Rattle.theory.specs.Maximum.{maxZ-both}
 use Rattle.theory.specs.MaxPlus.{maxPlus, Value, nothing, number}
 
 -- arithmetic 0 is modular; a table's other arithmetic, 1, is max and plus
@@ -69,6 +70,10 @@ meaning-codeOf (suc a) (number (pos n)) =
 meaning-codeOf (suc a) (number (negsuc n)) =
     let e : (2 * n + 1) / 2 ≡ n = omega arith in ap number (halved-odd (2 * n + 1) (omega arith) ∙ ap negsuc e)
 
+-- two codes with one meaning are equal
+pub meaning-same : (a c d : ℕ) → c < 2 ^ 32 → d < 2 ^ 32 → meaning a c ≡ meaning a d → c ≡ d
+meaning-same a c d l m e = sym (codeOf-meaning a c l) ∙ ap (codeOf a) e ∙ codeOf-meaning a d m
+
 -- code 0 means zero, and no other code does
 pub meaning-zero : (a : ℕ) → meaning a 0 ≡ (arithmetic a) .zero
 meaning-zero zero = refl
@@ -103,9 +108,8 @@ inRange-plus (suc a) nothing v h k = k
 inRange-plus (suc a) (number x) nothing h k = h
 inRange-plus (suc a) (number x) (number y) h k = maxZ-both (λ z. InRange 1 (number z)) x y h k
 
-pub inRange-sum : (a : ℕ) {A : Type 0} (xs : List A) (f : A → Weight a) → ((x : A) → InRange a (f x)) → InRange a (sum (arithmetic a) xs f)
-inRange-sum a [] f h = inRange-zero a
-inRange-sum a (x ∷ xs) f h = inRange-plus a (f x) (sum (arithmetic a) xs f) (h x) (inRange-sum a xs f h)
+pub inRange-sum : (a : ℕ) {A : Type 0} (Q : A → Type 0) (xs : List A) → Each Q xs → (f : A → Weight a) → ((x : A) → Q x → InRange a (f x)) → InRange a (sum (arithmetic a) xs f)
+inRange-sum a Q xs m f h = sum-holds (arithmetic a) (InRange a) (inRange-zero a) (inRange-plus a) Q xs m f h
 
 -- a weight of either arithmetic as nothing or a whole number
 abbrev pub valueOf : (a : ℕ) → Weight a → Value

@@ -1,7 +1,7 @@
 -- The numbers below a bound, in ascending order, and sums over them.
-use mathlib.Core.Path.{_≡_, refl, sym, ap, ap₂, _∙_, subst}
+use mathlib.Core.Path.{_≡_, refl, ap, ap₂, _∙_, subst}
 use mathlib.Core.Logic.{_⊎_, inl, inr, _≢_}
-use mathlib.Core.Bool.{Bool, true, false}
+use mathlib.Core.Bool.{Bool, false}
 use mathlib.Core.List.{List, [], _∷_}
 use Prim.Native.Nat.{ℕ, zero, suc, _+_, _<_, _≤_}
 use native.Mathlib.Omega.{arith}
@@ -30,8 +30,8 @@ each-below n = each-upFrom 0 n n (omega arith)
 
 module _ (S : Semiring) where
   open Semiring S using (Carrier, zero as 𝟘, plus as _⊕_, plus-zero)
-  infixl 6 _⊕_
 
+  infixl 6 _⊕_
   sum-past : (i k q : ℕ) (h : ℕ → Carrier) → q < i → sum S (upFrom i k) (λ u. only S (eqb q u) (h u)) ≡ 𝟘
   sum-past i zero q h l = refl
   sum-past i (suc k) q h l =

@@ -72,18 +72,23 @@ blocks-few (suc n) b (suc m) h = go (blocks-few n c m)
     -- the last number takes the place of the last state's block
     c : ℕ → ℕ
     c q = cond (eqb (b q) m) (b n) (b q)
+
     old : (q : ℕ) → b q ≢ m → c q ≡ b q
     old q e = ap (λ (t : Bool). cond t (b n) (b q)) (same-false numbers (b q) m e)
+
     new : (q : ℕ) → b q ≡ m → c q ≡ b n
     new q e = ap (λ (t : Bool). cond t (b n) (b q)) (true-of (eqb (b q) m) (equal-same numbers (b q) m e))
+
     below : (q D : ℕ) → q < suc n → b q ≡ D → b n ≢ D → q < n
     below q D l e f = let g : q ≢ n = λ d. f (ap b (sym d) ∙ e) in omega arith
+
     find : (D : ℕ) → D < m → (q : ℕ) × (q < n) × (c q ≡ D)
     find D l = pick (equal-or-not numbers (b n) D)
       where
         pick : (b n ≡ D) ⊎ (eqb (b n) D ≡ false) → (q : ℕ) × (q < n) × (c q ≡ D)
         pick (inl e) = let (q, lq, f) = h m (omega arith) in (q, below q m lq f (λ g. omega arith), new q f ∙ e)
         pick (inr e) = let (q, lq, f) = h D (omega arith) in (q, below q D lq f (false-differ numbers (b n) D e), old q (λ g. omega arith) ∙ f)
+
     go : (((D : ℕ) → D < m → (q : ℕ) × (q < n) × (c q ≡ D)) → m ≤ n) → suc m ≤ suc n
     go f = let r : m ≤ n = f find in omega arith
 
@@ -94,6 +99,7 @@ module _ (n : ℕ) (b c : ℕ → ℕ) (B : FirstUse n b) (C : FirstUse n c) (do
     where
       same : blockCount b i ≡ blockCount c i
       same = blockCount-same b c i ih
+
       go : Dec (b i < blockCount b i) → Dec (c i < blockCount c i) → b i ≡ c i
       go (yes k) y = let (j, lj, e) = block-member n b B i (omega arith) (b i) k in sym e ∙ ih j lj ∙ down .keeps j i (omega arith) l e
       go (no h) (yes k) = let (j, lj, e) = block-member n c C i (omega arith) (c i) k in up .keeps i j l (omega arith) (sym e) ∙ ih j lj ∙ e
@@ -129,6 +135,7 @@ member-shares b (suc i) q l = go (equal-or-not numbers (b i) (b q)) (member-shar
   where
     lower : eqb (b i) (b q) ≡ false → q < i
     lower e = let h : q ≢ i = λ d. false-differ numbers (b i) (b q) e (ap b (sym d)) in omega arith
+
     go : (b i ≡ b q) ⊎ (eqb (b i) (b q) ≡ false) → (q < i → (member b i (b q) < i) × (b (member b i (b q)) ≡ b q))
         → (member b (suc i) (b q) < suc i) × (b (member b (suc i) (b q)) ≡ b q)
     go (inl e) f = let t : eqb (b i) (b q) ≡ true = rw e (same-true numbers (b q)) in rw t (omega arith, e)

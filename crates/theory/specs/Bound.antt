@@ -1,17 +1,18 @@
 -- How far from 0 a weight of arithmetic 1 can lie: 2,147,483,647 for each node, and once more for the final weight.
-use mathlib.Core.Path.{_≡_, refl, sym, ap, subst}
+use mathlib.Core.Path.{_≡_, refl, subst}
 use mathlib.Core.Bool.{Bool, true, false, cond, _&&_}
 use mathlib.Core.List.{List, [], _∷_}
 use Prim.Native.Nat.{ℕ, zero, suc, _+_, _*_, _-_, _^_, _<_, _≤_}
 use native.Mathlib.Omega.{arith}
-use lib.Dec.{T, ltb, ltb→lt, eqb}
+use lib.Dec.{ltb, ltb→lt, eqb}
 use lib.IntN.{ℤ, pos, negsuc, natAbs, subℕ, _+ℤ_}
 use lib.ListN.{length, getD, length-append}
+use lib.Signed.{mag}
 use Rattle.model.specs.Table.{Table, Transition, Each, Proper, ProperTransition}
 use Rattle.model.specs.Tree.{Tree, Forest, node, none, _then_, prefix, prefixes}
 use Rattle.theory.specs.Each.{each-implies, each-getD}
 use Rattle.theory.specs.Equality.{of-true}
-use Rattle.theory.specs.Sum.{only, sum}
+use Rattle.theory.specs.Sum.{sum-holds, only-holds}
 use Rattle.theory.specs.Maximum.{maxZ-both}
 use Rattle.theory.specs.MaxPlus.{maxPlus, Value, nothing, number, greater, added}
 use Rattle.theory.specs.Below.{below, each-below}
@@ -36,6 +37,11 @@ natAbs-plus (pos a) (negsuc b) = natAbs-sub a (suc b)
 natAbs-plus (negsuc a) (pos b) = omega (arith, natAbs-sub b (suc a))
 natAbs-plus (negsuc a) (negsuc b) = omega arith
 
+-- `mag`, by which signed ranges are told, is no greater
+pub mag-natAbs : (z : ℤ) → mag z ≤ natAbs z
+mag-natAbs (pos n) = omega arith
+mag-natAbs (negsuc n) = omega arith
+
 pub within-more : (j k : ℕ) → j ≤ k → (v : Value) → Within j v → Within k v
 within-more j k l nothing h = tt
 within-more j k l (number z) h = omega arith
@@ -50,14 +56,6 @@ within-added j k nothing v h i = tt
 within-added j k (number x) nothing h i = tt
 within-added j k (number x) (number y) h i = omega (arith, natAbs-plus x y)
 
-pub within-sum : {A : Type 0} (k : ℕ) (xs : List A) (P : A → Type 0) → Each P xs → (f : A → Value) → ((x : A) → P x → Within k (f x)) → Within k (sum maxPlus xs f)
-within-sum k [] P m f h = tt
-within-sum k (x ∷ xs) P m f h = within-greater k (f x) (sum maxPlus xs f) (h x (m .0)) (within-sum k xs P (m .1) f h)
-
-pub within-only : (k : ℕ) (c : Bool) (v : Value) → Within k v → Within k (only maxPlus c v)
-within-only k true v h = h
-within-only k false v h = tt
-
 pub within-meaning : (c : ℕ) → c < 2 ^ 32 → Within 1 (meaning 1 c)
 within-meaning zero l = tt
 within-meaning (suc z) l = omega (arith, inRange-number (halved z) .0 (inRange-meaning 1 (suc z) l))
@@ -65,13 +63,14 @@ within-meaning (suc z) l = omega (arith, inRange-number (halved z) .0 (inRange-m
 module _ (X : Table) (fit : Each (λ t. t .code < 2 ^ 32) (X .transitions)) where
   mutual
     unfolding weightAt prefix
+
     -- a weight at a state lies within 2,147,483,647 times the number of nodes
     pub weightAt-within : (t : Tree) (q : ℕ) → Within (length (prefix t)) (weightAt 1 X t q)
-    weightAt-within (node σ ts) q = within-sum (suc (length (prefixes ts))) (X .transitions) (λ t. t .code < 2 ^ 32) fit _ (λ t l.
+    weightAt-within (node σ ts) q = sum-holds maxPlus (Within (suc (length (prefixes ts)))) tt (within-greater (suc (length (prefixes ts)))) (λ t. t .code < 2 ^ 32) (X .transitions) fit _ (λ t l.
         within-more (1 + length (prefixes ts)) (suc (length (prefixes ts))) (omega arith) (added (entering 1 σ q t) (productAt 1 X ts (t .children)))
-            (within-added 1 (length (prefixes ts)) (entering 1 σ q t) (productAt 1 X ts (t .children))
-                (within-only 1 (eqb (t .symbol) σ && eqb (t .target) q) (meaning 1 (t .code)) (within-meaning (t .code) l))
-                (productAt-within ts (t .children))))
+        (within-added 1 (length (prefixes ts)) (entering 1 σ q t) (productAt 1 X ts (t .children))
+        (only-holds maxPlus (Within 1) tt (eqb (t .symbol) σ && eqb (t .target) q) (meaning 1 (t .code)) (within-meaning (t .code) l))
+        (productAt-within ts (t .children))))
 
     pub productAt-within : (ts : Forest) (qs : List ℕ) → Within (length (prefixes ts)) (productAt 1 X ts qs)
     productAt-within none [] = omega arith
@@ -83,11 +82,11 @@ module _ (X : Table) (fit : Each (λ t. t .code < 2 ^ 32) (X .transitions)) wher
   -- the tree's weight lies within 2,147,483,647 times one more than the number of nodes
   pub weight-within : Each (λ c. c < 2 ^ 32) (X .finals) → (t : Tree) → Within (length (prefix t) + 1) (weight 1 X t)
   unfolding weight
-  weight-within fits t = within-sum (length (prefix t) + 1) (below (X .states)) (λ q. q < X .states) (each-below (X .states)) _ (λ q l.
+  weight-within fits t = sum-holds maxPlus (Within (length (prefix t) + 1)) tt (within-greater (length (prefix t) + 1)) (λ q. q < X .states) (below (X .states)) (each-below (X .states)) _ (λ q l.
       within-more (1 + length (prefix t)) (length (prefix t) + 1) (omega arith) (added (final 1 X q) (weightAt 1 X t q))
-          (within-added 1 (length (prefix t)) (final 1 X q) (weightAt 1 X t q)
-              (within-meaning (getD (X .finals) q 0) (each-getD (λ c. c < 2 ^ 32) (X .finals) q 0 fits (omega arith)))
-              (weightAt-within t q)))
+      (within-added 1 (length (prefix t)) (final 1 X q) (weightAt 1 X t q)
+      (within-meaning (getD (X .finals) q 0) (each-getD (λ c. c < 2 ^ 32) (X .finals) q 0 fits (omega arith)))
+      (weightAt-within t q)))
 
 -- in a table within 01's bounds, for a tree of at most 4,096 nodes
 module _ (X : Table) (proper : Proper X) (t : Tree) (small : length (prefix t) ≤ 4096) where

@@ -1,8 +1,9 @@
 -- What holds of each member of a list.
-use mathlib.Core.Path.{_≡_, refl}
+use mathlib.Core.Path.{refl}
 use mathlib.Core.List.{List, [], _∷_, _++_, map, flatMap, List·Memᴰ, List·Memᴰ·head, List·Memᴰ·tail}
-use Prim.Native.Nat.{ℕ, zero, suc}
-use lib.ListN.{getD, take, drop}
+use Prim.Native.Nat.{ℕ, zero, suc, _<_}
+use native.Mathlib.Omega.{arith}
+use lib.ListN.{length, getD, take, drop}
 use Rattle.model.specs.Table.{Each}
 
 pub each-implies : {A : Type 0} (P Q : A → Type 0) → ((x : A) → P x → Q x) → (xs : List A) → Each P xs → Each Q xs
@@ -45,3 +46,8 @@ pub each-getD : {A : Type 0} (P : A → Type 0) (xs : List A) (i : ℕ) (d : A) 
 each-getD P [] i d m h = h
 each-getD P (x ∷ xs) zero d m h = m .0
 each-getD P (x ∷ xs) (suc i) d m h = each-getD P xs i d (m .1) h
+
+pub each-at : {A : Type 0} (P : A → Type 0) (xs : List A) (i : ℕ) (d : A) → Each P xs → i < length xs → P (getD xs i d)
+each-at P [] i d m l = absurd (omega arith)
+each-at P (x ∷ xs) zero d m l = m .0
+each-at P (x ∷ xs) (suc i) d m l = each-at P xs i d (m .1) (omega arith)

@@ -1,5 +1,5 @@
 -- Types whose equality is a test that computes: numbers, lists of numbers, pairs.
-use mathlib.Core.Path.{_≡_, refl, sym, ap, ap₂, subst, _∙_}
+use mathlib.Core.Path.{_≡_, refl, sym, ap₂, subst, _∙_}
 use mathlib.Core.Logic.{_⊎_, inl, inr, _≢_}
 use mathlib.Core.Bool.{Bool, true, false, _&&_}
 use mathlib.Core.List.{List, [], _∷_}
@@ -18,6 +18,13 @@ true-of false t = absurd t
 
 pub of-true : (c : Bool) → c ≡ true → T c
 of-true c e = subst T (sym e) tt
+
+-- tests that hold together are equal
+pub test-iff : (c d : Bool) → (T c → T d) → (T d → T c) → c ≡ d
+test-iff true true f g = refl
+test-iff true false f g = absurd (f tt)
+test-iff false true f g = absurd (g tt)
+test-iff false false f g = refl
 
 pub and-first : (c d : Bool) → T (c && d) → T c
 and-first true d t = tt
@@ -86,8 +93,10 @@ lists = record { same = sameList; same-equal = sameList-equal; same-self = sameL
 -- pairs, part by part
 abbrev pub pairs : {A B : Type 0} → Equality A → Equality B → Equality (A × B)
 pairs E F = record {
-    same = λ x y. E .same (x .0) (y .0) && F .same (x .1) (y .1);
-    same-equal = λ x y t. λ i.
-        ( E .same-equal (x .0) (y .0) (and-first (E .same (x .0) (y .0)) (F .same (x .1) (y .1)) t) i
-        , F .same-equal (x .1) (y .1) (and-second (E .same (x .0) (y .0)) (F .same (x .1) (y .1)) t) i );
-    same-self = λ x. and-both (E .same (x .0) (x .0)) (F .same (x .1) (x .1)) (E .same-self (x .0)) (F .same-self (x .1)) }
+  same = λ x y. E .same (x .0) (y .0) && F .same (x .1) (y .1);
+  same-equal = λ x y t. λ i. (
+    E .same-equal (x .0) (y .0) (and-first (E .same (x .0) (y .0)) (F .same (x .1) (y .1)) t) i,
+    F .same-equal (x .1) (y .1) (and-second (E .same (x .0) (y .0)) (F .same (x .1) (y .1)) t) i,
+  );
+  same-self = λ x. and-both (E .same (x .0) (x .0)) (F .same (x .1) (x .1)) (E .same-self (x .0)) (F .same-self (x .1));
+}

@@ -1,14 +1,19 @@
 -- Document 01's worked examples, proved of the definitions.
 use mathlib.Core.Path.{_≡_, refl}
 use mathlib.Core.List.{List, [], _∷_}
-use Prim.Native.Nat.{ℕ}
+use Prim.Native.Nat.{ℕ, _^_, _<_, _≤_}
+use native.Mathlib.Omega.{arith}
 use lib.IntN.{pos, negℤ}
-use Rattle.model.specs.Table.{Table, Transition}
+use lib.ListN.{length}
+use Rattle.model.specs.Table.{Table, Transition, Each, ProperTransition, Proper, Ascending}
 use Rattle.model.specs.Tree.{Tree, node, none, _then_}
 use Rattle.theory.specs.MaxPlus.{number}
 use Rattle.theory.specs.Arithmetic.{meaning}
 use Rattle.theory.specs.Weight.{weightAt, weight, value}
 use Rattle.theory.specs.Sheet.{sheet}
+use Rattle.theory.specs.Direction.{backward, forward, CoarsestBlocks}
+use Rattle.theory.specs.Uses.{uses}
+use Rattle.theory.specs.Decision.{coarsestTest-sound}
 
 -- the symbols: a = 0 of rank 0, g = 1 of rank 1
 abbrev a→ : ℕ → ℕ → Transition
@@ -51,12 +56,21 @@ tableF = table 0 1 (5 ∷ []) []
 
 -- 01's list
 pub record Examples : Type 0 where
+  pub p1 : CoarsestBlocks backward tableA (0 ∷ 0 ∷ 1 ∷ [])
+  pub p3 : CoarsestBlocks forward tableA (0 ∷ 1 ∷ 2 ∷ [])
   pub p4-weight : value tableA g·a ≡ number (pos 36)
   pub p4-collapsed : value tableA-collapsed g·a ≡ number (pos 36)
   pub p4-sheet : sheet 0 tableA g·a ≡ pos 0 ∷ pos 0 ∷ pos 36 ∷ pos 3 ∷ pos 3 ∷ pos 0 ∷ []
+  pub p5-forward : CoarsestBlocks forward tableB (0 ∷ 0 ∷ 1 ∷ [])
+  pub p5-backward : CoarsestBlocks backward tableB (0 ∷ 1 ∷ 2 ∷ [])
   pub p5-weight : value tableB g·a ≡ number (pos 35)
+  pub p6-backward : CoarsestBlocks backward tableC (0 ∷ 0 ∷ 1 ∷ [])
   pub p6-weight : value tableC g·a ≡ number (pos 10)
+  pub p7-forward : CoarsestBlocks forward tableD (0 ∷ 1 ∷ 1 ∷ [])
   pub p7-weight : value tableD g·a ≡ number (pos 0)
+  pub p8-forward : CoarsestBlocks forward tableE (0 ∷ 1 ∷ 2 ∷ 3 ∷ [])
+  pub p9-backward : CoarsestBlocks backward tableF (0 ∷ [])
+  pub p9-forward : CoarsestBlocks forward tableF (0 ∷ [])
   pub p9-weight : value tableF g·a ≡ number (pos 0)
   pub p10-1 : meaning 1 1 ≡ number (pos 0)
   pub p10-2 : meaning 1 2 ≡ number (negℤ (pos 1))
@@ -65,8 +79,64 @@ pub record Examples : Type 0 where
   pub p10-greatest : meaning 1 4294967295 ≡ number (pos 2147483647)
   pub p10-least : meaning 1 4294967294 ≡ number (negℤ (pos 2147483647))
 
+-- a table over a and g is within 01's bounds
+proper : (a n : ℕ) (fs : List ℕ) (ts : List Transition) → (a ≤ 1) × (1 ≤ n) × (n ≤ 256) × (length fs ≡ n) × Each (λ c. c < 2 ^ 32) fs × (length ts ≤ 4000)
+    → Each (ProperTransition (0 ∷ 1 ∷ []) n) ts → Ascending [] ts → Proper (table a n fs ts)
+proper a n fs ts h m up = record {
+  arithmetic-known = h .0;
+  states-some = h .1;
+  states-few = h .2;
+  symbols-some = omega arith;
+  symbols-few = omega arith;
+  ranks-small = omega arith;
+  finals-many = h .3;
+  finals-fit = h .4;
+  transitions-few = h .5;
+  transitions-proper = m;
+  ascending = up;
+}
+
+properA : Proper tableA
+properA = proper 0 3 _ _ (omega arith) (omega arith) (omega arith)
+
+properB : Proper tableB
+properB = proper 0 3 _ _ (omega arith) (omega arith) (omega arith)
+
+properC : Proper tableC
+properC = proper 1 3 _ _ (omega arith) (omega arith) (omega arith)
+
+properD : Proper tableD
+properD = proper 0 3 _ _ (omega arith) (omega arith) (omega arith)
+
+properE : Proper tableE
+properE = proper 0 4 _ _ (omega arith) (omega arith) (omega arith)
+
+properF : Proper tableF
+properF = proper 0 1 _ _ (omega arith) (omega arith) (omega arith)
+
 pub examples : Examples
-unfolding value weight weightAt sheet
+unfolding value weight weightAt sheet uses
 examples = record {
-    p4-weight = refl; p4-collapsed = refl; p4-sheet = refl; p5-weight = refl; p6-weight = refl; p7-weight = refl; p9-weight = refl;
-    p10-1 = refl; p10-2 = refl; p10-3 = refl; p10-4 = refl; p10-greatest = refl; p10-least = refl }
+  p1 = coarsestTest-sound backward tableA properA [] (0 ∷ 0 ∷ 1 ∷ []) tt;
+  p3 = coarsestTest-sound forward tableA properA [] (0 ∷ 1 ∷ 2 ∷ []) tt;
+  p5-forward = coarsestTest-sound forward tableB properB [] (0 ∷ 0 ∷ 1 ∷ []) tt;
+  p5-backward = coarsestTest-sound backward tableB properB [] (0 ∷ 1 ∷ 2 ∷ []) tt;
+  p6-backward = coarsestTest-sound backward tableC properC [] (0 ∷ 0 ∷ 1 ∷ []) tt;
+  p7-forward = coarsestTest-sound forward tableD properD [] (0 ∷ 1 ∷ 1 ∷ []) tt;
+  p8-forward = coarsestTest-sound forward tableE properE ((0 ∷ 0 ∷ 0 ∷ 1 ∷ []) ∷ (0 ∷ 0 ∷ 1 ∷ 2 ∷ []) ∷ []) (0 ∷ 1 ∷ 2 ∷ 3 ∷ []) tt;
+  p9-backward = coarsestTest-sound backward tableF properF [] (0 ∷ []) tt;
+  p9-forward = coarsestTest-sound forward tableF properF [] (0 ∷ []) tt;
+  p4-weight = refl;
+  p4-collapsed = refl;
+  p4-sheet = refl;
+  p5-weight = refl;
+  p6-weight = refl;
+  p7-weight = refl;
+  p9-weight = refl;
+  p10-1 = refl;
+  p10-2 = refl;
+  p10-3 = refl;
+  p10-4 = refl;
+  p10-greatest = refl;
+  p10-least = refl;
+}

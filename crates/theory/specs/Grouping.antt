@@ -25,9 +25,9 @@ member-map κ (List·Memᴰ·tail m) = List·Memᴰ·tail (member-map κ m)
 
 module _ (S : Semiring) {K : Type 0} (E : Equality K) where
   open Semiring S using (Carrier, zero as 𝟘, plus as _⊕_, times as _⊗_, plus-zero)
+
   infixl 6 _⊕_
   infixl 7 _⊗_
-
   -- the key k stands in the list exactly once: a sum that selects k is what is summed there
   abbrev pub Once : List K → K → Type 0
   Once l k = (h : K → Carrier) → sum S l (λ u. only S (E .same k u) (h u)) ≡ h k
@@ -43,7 +43,7 @@ module _ (S : Semiring) {K : Type 0} (E : Equality K) where
   first-once : (k : K) (l : List K) → Once (k ∷ without E k l) k
   first-once k l h =
       ap₂ _⊕_ (ap (λ (c : Bool). only S c (h k)) (same-true E k))
-          (sum-without k l _ ∙ sum-same S l _ _ (λ u. only-not S (E .same k u) (h u)) ∙ sum-zero S l)
+      (sum-without k l _ ∙ sum-same S l _ _ (λ u. only-not S (E .same k u) (h u)) ∙ sum-zero S l)
       ∙ plus-zero (h k)
 
   later-once : (j k : K) (l : List K) → E .same j k ≡ false → Once l j → Once (k ∷ without E k l) j
@@ -64,6 +64,7 @@ module _ (S : Semiring) {K : Type 0} (E : Equality K) where
     where
       in-tail : E .same j k ≡ false → List·Memᴰ j l
       in-tail n = elim (List·Memᴰ·cases-cons m) [ inl e ↦ absurd (false-differ E j k n e) | inr r ↦ r ]
+
       go : (j ≡ k) ⊎ (E .same j k ≡ false) → (List·Memᴰ j l → Once (distinct E l) j) → Once (distinct E (k ∷ l)) j
       go (inl e) ih = subst (Once (distinct E (k ∷ l))) (sym e) (first-once k (distinct E l))
       go (inr n) ih = later-once j k (distinct E l) n (ih (in-tail n))
@@ -75,7 +76,7 @@ module _ (S : Semiring) {K : Type 0} (E : Equality K) where
       sum-each S (λ x. Once U (κ x)) xs o _ _ (λ x once. sym (once (λ u. w x ⊗ g u)))
       ∙ sum-exchange S xs U (λ x u. only S (E .same (κ x) u) (w x ⊗ g u))
       ∙ sum-same S U _ _ (λ u. sum-same S xs _ _ (λ x. sym (only-times S (E .same (κ x) u) (w x) (g u)))
-          ∙ sym (sum-times S xs (λ x. only S (E .same (κ x) u) (w x)) (g u)))
+      ∙ sym (sum-times S xs (λ x. only S (E .same (κ x) u) (w x)) (g u)))
 
   -- equal sums for each key give equal sums against each function of the keys
   pub sums-by-key : {A B : Type 0} (xs : List A) (κ : A → K) (w : A → Carrier) (ys : List B) (κ′ : B → K) (w′ : B → Carrier)

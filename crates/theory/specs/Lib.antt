@@ -11,7 +11,6 @@ pub mod Arithmetic
 pub mod Weight
 pub mod Sheet
 pub mod Bound
-pub mod Examples
 pub mod Blocks
 pub mod Bisimulation
 pub mod Direction
@@ -20,3 +19,5 @@ pub mod Uses
 pub mod Refinement
 pub mod Order
 pub mod Listing
+pub mod Decision
+pub mod Examples

@@ -96,6 +96,18 @@ added-greater (number a) (number b) (number c) = ap number (plus-maxZ a b c)
 
 abbrev pub maxPlus : Semiring
 maxPlus = record {
-    Carrier = Value; zero = nothing; one = number (pos 0); plus = greater; times = added; equality = values;
-    plus-comm = greater-comm; plus-assoc = greater-assoc; plus-zero = greater-nothing;
-    times-comm = added-comm; times-assoc = added-assoc; times-one = added-zero; times-zero = added-nothing; times-plus = added-greater }
+  Carrier = Value;
+  zero = nothing;
+  one = number (pos 0);
+  plus = greater;
+  times = added;
+  equality = values;
+  plus-comm = greater-comm;
+  plus-assoc = greater-assoc;
+  plus-zero = greater-nothing;
+  times-comm = added-comm;
+  times-assoc = added-assoc;
+  times-one = added-zero;
+  times-zero = added-nothing;
+  times-plus = added-greater;
+}

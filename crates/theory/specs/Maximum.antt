@@ -2,11 +2,11 @@
 use mathlib.Core.Path.{_≡_, refl, sym, ap, ap₂, _∙_, subst}
 use mathlib.Core.Bool.{Bool, true, false, cond}
 use mathlib.Core.Logic.{_⊎_, inl, inr}
-use Prim.Native.Nat.{ℕ, zero, suc, _+_, _-_, _<_, _≤_}
+use Prim.Native.Nat.{ℕ, zero, suc, _≤_}
 use native.Mathlib.Omega.{arith}
 use native.Mathlib.Decide.{decLe}
-use lib.Dec.{T, leb, leb→le, le→leb, ltb, ltb→lt, nltb→le, leb·suc-suc, leb·zero, leb·suc-zero}
-use lib.IntN.{ℤ, pos, negsuc, _+ℤ_, +ℤ-comm, +ℤ-idl, sucℤ, predℤ, sucℤ-+ℤ, predℤ-+ℤ, suc-pred}
+use lib.Dec.{T, leb, leb→le, le→leb, leb·suc-suc, leb·zero, leb·suc-zero}
+use lib.IntN.{ℤ, pos, negsuc, _+ℤ_, +ℤ-idl, sucℤ, predℤ, sucℤ-+ℤ, predℤ-+ℤ, suc-pred}
 use lib.Signed.{leZ}
 
 -- `leZ` is a total order
@@ -101,14 +101,15 @@ maxZ-comm a b = leZ-antisym _ _ (maxZ-least a b _ (maxZ-right b a) (maxZ-left b 
 pub maxZ-assoc : (a b c : ℤ) → maxZ (maxZ a b) c ≡ maxZ a (maxZ b c)
 maxZ-assoc a b c = leZ-antisym l r
     (maxZ-least (maxZ a b) c r
-        (maxZ-least a b r (maxZ-left a (maxZ b c)) (leZ-trans b (maxZ b c) r (maxZ-left b c) (maxZ-right a (maxZ b c))))
-        (leZ-trans c (maxZ b c) r (maxZ-right b c) (maxZ-right a (maxZ b c))))
+    (maxZ-least a b r (maxZ-left a (maxZ b c)) (leZ-trans b (maxZ b c) r (maxZ-left b c) (maxZ-right a (maxZ b c))))
+    (leZ-trans c (maxZ b c) r (maxZ-right b c) (maxZ-right a (maxZ b c))))
     (maxZ-least a (maxZ b c) l
-        (leZ-trans a (maxZ a b) l (maxZ-left a b) (maxZ-left (maxZ a b) c))
-        (maxZ-least b c l (leZ-trans b (maxZ a b) l (maxZ-right a b) (maxZ-left (maxZ a b) c)) (maxZ-right (maxZ a b) c)))
+    (leZ-trans a (maxZ a b) l (maxZ-left a b) (maxZ-left (maxZ a b) c))
+    (maxZ-least b c l (leZ-trans b (maxZ a b) l (maxZ-right a b) (maxZ-left (maxZ a b) c)) (maxZ-right (maxZ a b) c)))
   where
     l : ℤ
     l = maxZ (maxZ a b) c
+
     r : ℤ
     r = maxZ a (maxZ b c)
 

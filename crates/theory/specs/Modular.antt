@@ -1,5 +1,5 @@
 -- Arithmetic 0: the numbers below 2^32, with sum and product modulo 2^32.
-use mathlib.Core.Path.{_≡_, refl, sym, ap, _∙_}
+use mathlib.Core.Path.{_≡_, sym, ap, _∙_}
 use mathlib.Core.HLevel.{Σ-prop-path}
 use Prim.Native.Nat.{ℕ, _+_, _*_, _%_, _/_, _^_, _<_}
 use native.Mathlib.Bridge.{le-prop}
@@ -39,18 +39,19 @@ modulo e = ap (λ (x : ℕ). x % 2 ^ 32) e
 
 abbrev pub modular : Semiring
 modular = record {
-    Carrier = Residue;
-    zero = residue 0;
-    one = residue 1;
-    plus = λ a b. residue (a .0 + b .0);
-    times = λ a b. residue (a .0 * b .0);
-    equality = record { same = λ a b. eqb (a .0) (b .0); same-equal = λ a b t. residue-same (eqb→eq (a .0) (b .0) t); same-self = λ a. eqb-refl (a .0) };
-    plus-comm = λ a b. ap residue (add-comm (a .0) (b .0));
-    plus-assoc = λ a b c. residue-same (mod-add-mod (a .0 + b .0) (2 ^ 32) (c .0) ∙ modulo (add-assoc (a .0) (b .0) (c .0)) ∙ sym (add-mod-mod (a .0) (b .0 + c .0) (2 ^ 32)));
-    plus-zero = λ a. residue-same (modulo (add-zero (a .0)) ∙ mod-eq-of-lt (a .1));
-    times-comm = λ a b. ap residue (mul-comm (a .0) (b .0));
-    times-assoc = λ a b c. residue-same (remainder-times (2 ^ 32) (a .0 * b .0) (c .0) ∙ modulo (mul-assoc (a .0) (b .0) (c .0)) ∙ sym (times-remainder (2 ^ 32) (a .0) (b .0 * c .0)));
-    times-one = λ a. residue-same (modulo (mul-one (a .0)) ∙ mod-eq-of-lt (a .1));
-    times-zero = λ a. residue-same (modulo (mul-zero (a .0)));
-    times-plus = λ a b c. residue-same (times-remainder (2 ^ 32) (a .0) (b .0 + c .0) ∙ modulo (mul-add (a .0) (b .0) (c .0))
-        ∙ sym (mod-add-mod (a .0 * b .0) (2 ^ 32) (a .0 * c .0 % 2 ^ 32) ∙ add-mod-mod (a .0 * b .0) (a .0 * c .0) (2 ^ 32))) }
+  Carrier = Residue;
+  zero = residue 0;
+  one = residue 1;
+  plus = λ a b. residue (a .0 + b .0);
+  times = λ a b. residue (a .0 * b .0);
+  equality = record { same = λ a b. eqb (a .0) (b .0); same-equal = λ a b t. residue-same (eqb→eq (a .0) (b .0) t); same-self = λ a. eqb-refl (a .0) };
+  plus-comm = λ a b. ap residue (add-comm (a .0) (b .0));
+  plus-assoc = λ a b c. residue-same (mod-add-mod (a .0 + b .0) (2 ^ 32) (c .0) ∙ modulo (add-assoc (a .0) (b .0) (c .0)) ∙ sym (add-mod-mod (a .0) (b .0 + c .0) (2 ^ 32)));
+  plus-zero = λ a. residue-same (modulo (add-zero (a .0)) ∙ mod-eq-of-lt (a .1));
+  times-comm = λ a b. ap residue (mul-comm (a .0) (b .0));
+  times-assoc = λ a b c. residue-same (remainder-times (2 ^ 32) (a .0 * b .0) (c .0) ∙ modulo (mul-assoc (a .0) (b .0) (c .0)) ∙ sym (times-remainder (2 ^ 32) (a .0) (b .0 * c .0)));
+  times-one = λ a. residue-same (modulo (mul-one (a .0)) ∙ mod-eq-of-lt (a .1));
+  times-zero = λ a. residue-same (modulo (mul-zero (a .0)));
+  times-plus = λ a b c. residue-same (times-remainder (2 ^ 32) (a .0) (b .0 + c .0) ∙ modulo (mul-add (a .0) (b .0) (c .0))
+      ∙ sym (mod-add-mod (a .0 * b .0) (2 ^ 32) (a .0 * c .0 % 2 ^ 32) ∙ add-mod-mod (a .0 * b .0) (a .0 * c .0) (2 ^ 32)));
+}

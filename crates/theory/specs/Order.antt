@@ -1,6 +1,6 @@
 -- Strict orders that a test decides: of numbers, and of lists as transitions are ordered (document 01, "Bytes").
-use mathlib.Core.Path.{_≡_, refl, sym, ap, ap₂, _∙_, subst}
-use mathlib.Core.Logic.{_⊎_, inl, inr, _≢_}
+use mathlib.Core.Path.{_≡_, refl, sym, ap₂, _∙_, subst}
+use mathlib.Core.Logic.{_⊎_, inl, inr}
 use mathlib.Core.Bool.{Bool, true, false, cond}
 use mathlib.Core.List.{List, [], _∷_}
 use Prim.Native.Nat.{ℕ, _<_}
@@ -33,10 +33,11 @@ ltb-total j k = go (decLt j k) (decLt k j)
 
 abbrev pub numberOrder : Order ℕ
 numberOrder = record {
-    under = ltb;
-    under-not-self = ltb-not-self;
-    under-trans = ltb-trans;
-    under-total = ltb-total }
+  under = ltb;
+  under-not-self = ltb-not-self;
+  under-trans = ltb-trans;
+  under-total = ltb-total;
+}
 
 -- the order of keys: the first place where two lists differ decides
 lower-head : (x y : ℕ) (xs ys : List ℕ) → T (ltb x y) → T (lower (x ∷ xs) (y ∷ ys))

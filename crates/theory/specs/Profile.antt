@@ -1,13 +1,13 @@
 -- The profile of a state: its summed weights, keyed by numbers that stay and by the blocks of states. Both directions compare profiles.
 use mathlib.Core.Path.{_≡_, refl, sym, ap, ap₂, _∙_, subst}
 use mathlib.Core.Logic.{_⊎_, inl, inr, _≢_}
-use mathlib.Core.Bool.{Bool, true, false}
+use mathlib.Core.Bool.{Bool, false}
 use mathlib.Core.List.{List, [], _∷_, map}
 use Prim.Native.Nat.{ℕ, _<_}
-use lib.Dec.{T, eqb}
+use lib.Dec.{eqb}
 use Rattle.model.specs.Table.{Each}
 use Rattle.theory.specs.Each.{each-implies}
-use Rattle.theory.specs.Equality.{Equality, numbers, lists, pairs, equal-or-not, false-differ}
+use Rattle.theory.specs.Equality.{Equality, numbers, lists, pairs, equal-or-not, equal-same, false-differ, test-iff}
 use Rattle.theory.specs.Semiring.{Semiring}
 use Rattle.theory.specs.Sum.{only, sum, sum-same, sum-each, sum-zero, only-zero, times-only-one}
 use Rattle.theory.specs.Grouping.{sums-by-key}
@@ -41,8 +41,8 @@ map-each P f g h (q ∷ qs) m = ap₂ _∷_ (h q (m .0)) (map-each P f g h qs (m
 
 module _ (S : Semiring) where
   open Semiring S using (Carrier, zero as 𝟘, one as 𝟙, times as _⊗_)
-  infixl 7 _⊗_
 
+  infixl 7 _⊗_
   -- the weight of a use of p; zero for a use of any other state
   abbrev pub counted : ℕ → Use Carrier → Carrier
   counted p u = only S (eqb (u .state) p) (u .weight)
@@ -74,25 +74,54 @@ module _ (S : Semiring) where
       where
         Met : Use Carrier → Type 0
         Met u = (u .state ≡ p) ⊎ (u .state ≡ q) → profile b (keyOf b u) p ≡ profile b (keyOf b u) q
+
         Unmet : ℕ → Use Carrier → Type 0
         Unmet r u = u .state ≡ r → keyOf b u ≢ k
+
         Answer : List (Use Carrier) → Type 0
         Answer us = (profile b k p ≡ profile b k q) ⊎ (Each (Unmet p) us × Each (Unmet q) us)
+
         add : (u : Use Carrier) (us : List (Use Carrier)) → Unmet p u → Unmet q u → Answer us → Answer (u ∷ us)
         add u us hp hq (inl e) = inl e
         add u us hp hq (inr r) = inr ((hp, r .0), (hq, r .1))
+
         look : (u : Use Carrier) (us : List (Use Carrier)) → Met u → Answer us
             → (keyOf b u ≡ k) ⊎ (keys .same (keyOf b u) k ≡ false) → (u .state ≡ p) ⊎ (eqb (u .state) p ≡ false) → (u .state ≡ q) ⊎ (eqb (u .state) q ≡ false) → Answer (u ∷ us)
         look u us h r (inl f) (inl e) y = inl (subst (λ (j : Key). profile b j p ≡ profile b j q) f (h (inl e)))
         look u us h r (inl f) (inr e) (inl d) = inl (subst (λ (j : Key). profile b j p ≡ profile b j q) f (h (inr d)))
         look u us h r (inl f) (inr e) (inr d) = add u us (λ x. absurd (false-differ numbers (u .state) p e x)) (λ x. absurd (false-differ numbers (u .state) q d x)) r
         look u us h r (inr f) x y = add u us (λ _. false-differ keys (keyOf b u) k f) (λ _. false-differ keys (keyOf b u) k f) r
+
         find : (us : List (Use Carrier)) → Each Met us → Answer us
         find [] n = inr (tt, tt)
         find (u ∷ us) n = look u us (n .0) (find us (n .1)) (equal-or-not keys (keyOf b u) k) (equal-or-not numbers (u .state) p) (equal-or-not numbers (u .state) q)
+
         finish : Answer uses → profile b k p ≡ profile b k q
         finish (inl e) = e
         finish (inr r) = profile-unmet b k p (r .0) ∙ sym (profile-unmet b k q (r .1))
+
+    -- Keys packed into anything that tells the uses' keys apart.
+    module _ {K : Type 0} (E : Equality K) (pack : Key → K) (b : ℕ → ℕ) where
+      -- the summed weights of p's uses whose key is packed as j
+      abbrev pub packedSum : K → ℕ → Carrier
+      packedSum j p = sum S uses (λ u. only S (E .same (pack (keyOf b u)) j) (counted p u))
+
+      pub profile-packed : (p q : ℕ) → SameProfile b p q → (j : K) → packedSum j p ≡ packedSum j q
+      profile-packed p q h j = sym (as-product p) ∙ sums-by-key S keys uses (keyOf b) (counted p) uses (keyOf b) (counted q) h (λ k. only S (E .same (pack k) j) 𝟙) ∙ as-product q
+        where
+          as-product : (r : ℕ) → sum S uses (λ u. counted r u ⊗ only S (E .same (pack (keyOf b u)) j) 𝟙) ≡ packedSum j r
+          as-product r = sum-same S uses _ _ (λ u. times-only-one S (E .same (pack (keyOf b u)) j) (counted r u))
+
+      pub packed-profile : Each (λ u. Each (λ v. pack (keyOf b v) ≡ pack (keyOf b u) → keyOf b v ≡ keyOf b u) uses) uses
+          → (p q : ℕ) → ((j : K) → packedSum j p ≡ packedSum j q) → SameProfile b p q
+      packed-profile apart p q h = profile-met b p q (each-implies (λ u. Each (λ v. pack (keyOf b v) ≡ pack (keyOf b u) → keyOf b v ≡ keyOf b u) uses) _
+          (λ u tells _. sym (at u tells p) ∙ h (pack (keyOf b u)) ∙ at u tells q) uses apart)
+        where
+          at : (u : Use Carrier) → Each (λ v. pack (keyOf b v) ≡ pack (keyOf b u) → keyOf b v ≡ keyOf b u) uses → (r : ℕ) → packedSum (pack (keyOf b u)) r ≡ profile b (keyOf b u) r
+          at u tells r = sum-each S (λ v. pack (keyOf b v) ≡ pack (keyOf b u) → keyOf b v ≡ keyOf b u) uses tells _ _ (λ v f. ap (λ (c : Bool). only S c (counted r v))
+              (test-iff (E .same (pack (keyOf b v)) (pack (keyOf b u))) (keys .same (keyOf b v) (keyOf b u))
+              (λ t. equal-same keys (keyOf b v) (keyOf b u) (f (E .same-equal (pack (keyOf b v)) (pack (keyOf b u)) t)))
+              (λ t. equal-same E (pack (keyOf b v)) (pack (keyOf b u)) (ap pack (keys .same-equal (keyOf b v) (keyOf b u) t)))))
 
     -- p depends on no state whose block differs in b and b′
     abbrev pub Independent : (ℕ → ℕ) → (ℕ → ℕ) → ℕ → Type 0
@@ -135,7 +164,8 @@ module _ (S : Semiring) where
 
     pub alike-agreement : Each (λ u. Each (λ r. r < n) (u .through)) uses → Agreement n Alike
     alike-agreement known = record {
-        agree-self = λ b p. (refl, λ k. refl);
-        agree-sym = λ b p q h. (sym (h .0), λ k. sym (h .1 k));
-        agree-trans = λ b p q r h i. (h .0 ∙ i .0, λ k. h .1 k ∙ i .1 k);
-        agree-merge = λ c b r p q h. (h .0, profile-merge uses n known c b r p q (h .1)) }
+      agree-self = λ b p. (refl, λ k. refl);
+      agree-sym = λ b p q h. (sym (h .0), λ k. sym (h .1 k));
+      agree-trans = λ b p q r h i. (h .0 ∙ i .0, λ k. h .1 k ∙ i .1 k);
+      agree-merge = λ c b r p q h. (h .0, profile-merge uses n known c b r p q (h .1));
+    }

@@ -1,7 +1,7 @@
 -- Refinement of blocks by profiles: what holds while blocks are split, and that it ends at the coarsest bisimulation.
-use mathlib.Core.Path.{_≡_, refl, sym, ap, _∙_}
+use mathlib.Core.Path.{_≡_, sym, _∙_}
 use mathlib.Core.Logic.{_⊎_, inl, inr, _≢_, _↔_}
-use mathlib.Core.Bool.{Bool, false}
+use mathlib.Core.Bool.{false}
 use mathlib.Core.List.{List}
 use Prim.Native.Nat.{ℕ, _<_}
 use lib.Dec.{eqb}
@@ -23,9 +23,10 @@ module _ (S : Semiring) (n : ℕ) (grade : ℕ → S .Carrier) (uses : List (Use
   -- at the start the blocks are the grades, and no state is clean
   pub refining-start : (b : ℕ → ℕ) → ((p q : ℕ) → p < n → q < n → (b p ≡ b q) ↔ (grade p ≡ grade q)) → Refining b (λ q. ⊥)
   refining-start b h = record {
-      covers = λ c bis. record { keeps = λ p q lp lq e. h p q lp lq .1 (bis .agree p q lp lq e .0) };
-      graded = λ p q lp lq e. h p q lp lq .0 e;
-      settled = λ p q lp lq x y e. absurd x }
+    covers = λ c bis. record { keeps = λ p q lp lq e. h p q lp lq .1 (bis .agree p q lp lq e .0) };
+    graded = λ p q lp lq e. h p q lp lq .0 e;
+    settled = λ p q lp lq x y e. absurd x;
+  }
 
   -- the block D is split by profiles into parts, one of which may keep its number; no other block changes; a state is clean afterwards
   -- only if it was clean or in D, and depends on no state that has a new number
@@ -51,9 +52,10 @@ module _ (S : Semiring) (n : ℕ) (grade : ℕ → S .Carrier) (uses : List (Use
     -- a split keeps what holds
     pub refining-split : Refining b′ Clean′
     refining-split = record {
-        covers = General.split-covers n (Alike S n grade uses) (alike-agreement S n grade uses known) b b′ stay (before .covers);
-        graded = λ p q lp lq e. elim (split-refines p q lp lq e) [ inl r ↦ before .graded p q lp lq (r .0 ∙ sym (r .1)) | inr r ↦ before .graded p q lp lq (r .2) ];
-        settled = settled }
+      covers = General.split-covers n (Alike S n grade uses) (alike-agreement S n grade uses known) b b′ stay (before .covers);
+      graded = λ p q lp lq e. elim (split-refines p q lp lq e) [ inl r ↦ before .graded p q lp lq (r .0 ∙ sym (r .1)) | inr r ↦ before .graded p q lp lq (r .2) ];
+      settled = settled;
+    }
       where
         stay : (p q : ℕ) → p < n → q < n → b p ≡ b q → Alike S n grade uses b p q → b′ p ≡ b′ q
         stay p q lp lq e h = go (equal-or-not numbers (b p) D)
@@ -61,6 +63,7 @@ module _ (S : Semiring) (n : ℕ) (grade : ℕ → S .Carrier) (uses : List (Use
             go : (b p ≡ D) ⊎ (eqb (b p) D ≡ false) → b′ p ≡ b′ q
             go (inl x) = split .parts p q lp lq x (sym e ∙ x) .1 (h .1)
             go (inr x) = let hp : b p ≢ D = false-differ numbers (b p) D x in split .elsewhere p lp hp ∙ e ∙ sym (split .elsewhere q lq (λ y. hp (e ∙ y)))
+
         settled : (p q : ℕ) → p < n → q < n → Clean′ p → Clean′ q → b′ p ≡ b′ q → SameProfile S uses b′ p q
         settled p q lp lq cp cq e k = sym (profile-kept S uses b b′ p (split .marked p lp cp) k) ∙ same (split-refines p q lp lq e) k ∙ profile-kept S uses b b′ q (split .marked q lq cq) k
           where

@@ -1,6 +1,6 @@
 -- The sheet that weighing fills: for each node, in prefix order, the weights of its subtree at the states 0 to n − 1.
 use mathlib.Core.Path.{_≡_, refl, sym, ap, ap₂, _∙_}
-use mathlib.Core.List.{List, [], _∷_, _++_, map}
+use mathlib.Core.List.{List, [], _++_, map}
 use Prim.Native.Nat.{ℕ, zero, suc, _+_, _*_}
 use native.Mathlib.Nat.{add-mul, suc-mul, zero-mul, add-comm}
 use lib.IntN.{ℤ}
@@ -35,6 +35,7 @@ module _ (a : ℕ) (X : Table) where
   -- n numbers for each node
   mutual
     unfolding sheet prefix
+
     pub length-sheet : (t : Tree) → length (sheet t) ≡ length (prefix t) * X .states
     length-sheet (node σ ts) = length-append (row (node σ ts)) (sheets ts) ∙ ap₂ _+_ (length-row (node σ ts)) (length-sheets ts)
         ∙ add-comm (X .states) (length (prefixes ts) * X .states) ∙ sym (suc-mul (length (prefixes ts)) (X .states))

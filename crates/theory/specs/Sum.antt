@@ -7,9 +7,9 @@ use Rattle.theory.specs.Semiring.{Semiring}
 
 module _ (S : Semiring) where
   open Semiring S using (Carrier, zero as 𝟘, one as 𝟙, plus as _⊕_, times as _⊗_, plus-comm, plus-assoc, plus-zero, times-comm, times-one, times-zero, times-plus)
+
   infixl 6 _⊕_
   infixl 7 _⊗_
-
   -- the weight where the test holds, else zero
   abbrev pub only : Bool → Carrier → Carrier
   only true w = w
@@ -48,6 +48,16 @@ module _ (S : Semiring) where
   pub sum-each : {A : Type 0} (P : A → Type 0) (xs : List A) → Each P xs → (f g : A → Carrier) → ((x : A) → P x → f x ≡ g x) → sum xs f ≡ sum xs g
   sum-each P [] m f g h = refl
   sum-each P (x ∷ xs) m f g h = ap₂ _⊕_ (h x (m .0)) (sum-each P xs (m .1) f g h)
+
+  -- what holds of zero, of sums and of each summand holds of the sum
+  pub sum-holds : (P : Carrier → Type 0) → P 𝟘 → ((u v : Carrier) → P u → P v → P (u ⊕ v))
+      → {A : Type 0} (Q : A → Type 0) (xs : List A) → Each Q xs → (f : A → Carrier) → ((x : A) → Q x → P (f x)) → P (sum xs f)
+  sum-holds P z s Q [] m f h = z
+  sum-holds P z s Q (x ∷ xs) m f h = s (f x) (sum xs f) (h x (m .0)) (sum-holds P z s Q xs (m .1) f h)
+
+  pub only-holds : (P : Carrier → Type 0) → P 𝟘 → (c : Bool) (w : Carrier) → P w → P (only c w)
+  only-holds P z true w h = h
+  only-holds P z false w h = z
 
   pub sum-zero {ℓ} : {A : Type ℓ} (xs : List A) → sum xs (λ x. 𝟘) ≡ 𝟘
   sum-zero [] = refl
@@ -130,6 +140,6 @@ module _ (S : Semiring) where
       → sum xs (λ x. w x ⊗ sum ys (λ y. only (e x y) (h y))) ≡ sum ys (λ y. sum xs (λ x. only (e x y) (w x)) ⊗ h y)
   sum-exchange-only xs ys e w h =
       sum-same xs _ _ (λ x. times-sum (w x) ys (λ y. only (e x y) (h y))
-          ∙ sum-same ys _ _ (λ y. times-only (e x y) (w x) (h y) ∙ sym (only-times (e x y) (w x) (h y))))
+      ∙ sum-same ys _ _ (λ y. times-only (e x y) (w x) (h y) ∙ sym (only-times (e x y) (w x) (h y))))
       ∙ sum-exchange xs ys (λ x y. only (e x y) (w x) ⊗ h y)
       ∙ sum-same ys _ _ (λ y. sym (sum-times xs (λ x. only (e x y) (w x)) (h y)))

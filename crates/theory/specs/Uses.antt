@@ -1,25 +1,25 @@
 -- The uses of a table's states in each direction, and that two states agree exactly when they have equal grades and the same profile.
-use mathlib.Core.Path.{_≡_, refl, sym, ap, ap₂, _∙_, subst}
-use mathlib.Core.Logic.{_⊎_, inl, inr, _↔_}
+use mathlib.Core.Path.{_≡_, refl, sym, ap, _∙_, subst}
+use mathlib.Core.Logic.{_⊎_}
 use mathlib.Core.Bool.{Bool, true, false, _&&_, and-comm, and-assoc, and-false}
 use mathlib.Core.List.{List, [], _∷_, _++_, map, flatMap}
 use Prim.Native.Nat.{ℕ, zero, suc, _<_, _≤_}
 use native.Mathlib.Omega.{arith}
 use native.Mathlib.Decide.{decLt}
-use lib.Dec.{T, eqb}
+use lib.Dec.{eqb}
 use lib.ListN.{length, getD, take, drop}
 use lib.Seq.{length-take-le}
-use Rattle.model.specs.Table.{Table, Transition, Each, Proper, ProperTransition}
-use Rattle.theory.specs.Each.{each-implies, each-all, each-map, each-flatMap, each-take, each-drop}
+use Rattle.model.specs.Table.{Table, Transition, Each, ProperTransition}
+use Rattle.theory.specs.Each.{each-implies, each-all, each-map, each-flatMap, each-take, each-drop, each-at}
 use Rattle.theory.specs.Equality.{numbers, sameList, same-comm, same-false}
 use Rattle.theory.specs.Semiring.{Semiring}
 use Rattle.theory.specs.Sum.{only, sum, sum-same, sum-each, sum-zero, sum-map, sum-flatMap, only-and, only-zero, only-comm}
 use Rattle.theory.specs.Below.{below, each-below, below-once}
 use Rattle.theory.specs.Arithmetic.{arithmetic, Weight, meaning}
-use Rattle.theory.specs.Weight.{final, entering, leaving}
+use Rattle.theory.specs.Weight.{final, leaving}
 use Rattle.theory.specs.Bisimulation.{Agreement}
-use Rattle.theory.specs.Direction.{Direction, backward, forward, sumFrom, sumInto, AgreeBackward, AgreeForward, Agree}
-use Rattle.theory.specs.Profile.{Use, Key, keyOf, keys, counted, profile, SameProfile, profile-met, Alike, alike-agreement}
+use Rattle.theory.specs.Direction.{Direction, backward, forward, sumFrom, sumInto, AgreeForward, Agree}
+use Rattle.theory.specs.Profile.{Use, Key, keyOf, keys, counted, profile, profile-met, Independent, Alike, alike-agreement}
 
 -- the list without its entry k
 abbrev pub others : ℕ → List ℕ → List ℕ
@@ -39,6 +39,7 @@ module _ (a : ℕ) where
   useAt t k = record { state = getD (t .children) k 0; fixed = t .symbol ∷ k ∷ others k (t .children); through = t .target ∷ []; weight = meaning a (t .code) }
 
   unfoldable pub uses : Direction → List Transition → List (Use (Weight a))
+  unfolding flatMap
   uses backward ts = map useInto ts
   uses forward ts = flatMap (λ t. map (useAt t) (below (length (t .children)))) ts
 
@@ -97,31 +98,36 @@ module _ (a : ℕ) where
 
     at-places : (t : Transition)
         → sum (arithmetic a) (below (length (t .children))) (λ k. only (arithmetic a) (keys .same (keyOf b (useAt t k)) place) (counted (arithmetic a) p (useAt t k)))
-          ≡ only (arithmetic a) (eqb (b (t .target)) D) (leaving a σ (before ++ p ∷ after) t)
+        ≡ only (arithmetic a) (eqb (b (t .target)) D) (leaving a σ (before ++ p ∷ after) t)
     unfolding place
     at-places t = sum-same (arithmetic a) (below (length qs)) _ _ (λ k.
-            one-at (eqb (t .symbol) σ) (eqb k (length before)) (sameList (others k qs) (before ++ after)) (eqb (b (t .target)) D) (eqb (getD qs k 0) p) w
-            ∙ ap (λ (c : Bool). only (arithmetic a) c (rest k)) (same-comm numbers k (length before)))
+        one-at (eqb (t .symbol) σ) (eqb k (length before)) (sameList (others k qs) (before ++ after)) (eqb (b (t .target)) D) (eqb (getD qs k 0) p) w
+        ∙ ap (λ (c : Bool). only (arithmetic a) c (rest k)) (same-comm numbers k (length before)))
         ∙ go (decLt (length before) (length qs))
       where
         qs : List ℕ
         qs = t .children
+
         w : Weight a
         w = meaning a (t .code)
+
         inner : Weight a
         inner = only (arithmetic a) (eqb (b (t .target)) D) (only (arithmetic a) (eqb (t .symbol) σ) w)
+
         rest : ℕ → Weight a
         rest k = only (arithmetic a) (sameList (others k qs) (before ++ after) && eqb (getD qs k 0) p) inner
+
         shape : only (arithmetic a) (sameList qs (before ++ p ∷ after)) inner ≡ only (arithmetic a) (eqb (b (t .target)) D) (leaving a σ (before ++ p ∷ after) t)
         shape = only-comm (arithmetic a) (sameList qs (before ++ p ∷ after)) (eqb (b (t .target)) D) (only (arithmetic a) (eqb (t .symbol) σ) w)
             ∙ ap (only (arithmetic a) (eqb (b (t .target)) D)) (only-comm (arithmetic a) (sameList qs (before ++ p ∷ after)) (eqb (t .symbol) σ) w
-                ∙ sym (only-and (arithmetic a) (eqb (t .symbol) σ) (sameList qs (before ++ p ∷ after)) w))
+            ∙ sym (only-and (arithmetic a) (eqb (t .symbol) σ) (sameList qs (before ++ p ∷ after)) w))
+
         go : Dec (length before < length qs) → sum (arithmetic a) (below (length qs)) (λ k. only (arithmetic a) (eqb (length before) k) (rest k))
             ≡ only (arithmetic a) (eqb (b (t .target)) D) (leaving a σ (before ++ p ∷ after) t)
         go (yes l) = below-once (arithmetic a) (length qs) (length before) l rest
             ∙ ap (λ (c : Bool). only (arithmetic a) c inner) (fills before p after qs l) ∙ shape
         go (no h) = sum-each (arithmetic a) (λ k. k < length qs) (below (length qs)) (each-below (length qs)) _ (λ k. 𝟘)
-                (λ k l. ap (λ (c : Bool). only (arithmetic a) c (rest k)) (same-false numbers (length before) k (λ e. omega arith)))
+            (λ k l. ap (λ (c : Bool). only (arithmetic a) c (rest k)) (same-false numbers (length before) k (λ e. omega arith)))
             ∙ sum-zero (arithmetic a) (below (length qs))
             ∙ sym (ap (λ (c : Bool). only (arithmetic a) c inner) (too-few before p after qs (omega arith))) ∙ shape
 
@@ -146,8 +152,8 @@ module _ (a : ℕ) where
         (each-implies (ProperTransition (X .ranks) (X .states)) (λ t. Each (λ r. r < X .states) (t .children)) (λ t p. p .children-known) (X .transitions) known)
     uses-known forward = each-flatMap _ _ (X .transitions)
         (each-implies (ProperTransition (X .ranks) (X .states)) _
-            (λ t p. each-map (λ u. Each (λ r. r < X .states) (u .through)) (useAt t) (below (length (t .children)))
-                (each-all _ (λ k. (p .target-known, tt)) (below (length (t .children))))) (X .transitions) known)
+        (λ t p. each-map (λ u. Each (λ r. r < X .states) (u .through)) (useAt t) (below (length (t .children)))
+        (each-all _ (λ k. (p .target-known, tt)) (below (length (t .children))))) (X .transitions) known)
 
     module _ (b : ℕ → ℕ) (p q : ℕ) where
       -- the sums are equal at one key
@@ -165,8 +171,10 @@ module _ (a : ℕ) where
         where
           before : List ℕ
           before = take k (t .children)
+
           after : List ℕ
           after = drop (suc k) (t .children)
+
           key : _≡_ {A = Key} (t .symbol ∷ length before ∷ before ++ after, b (t .target) ∷ []) (keyOf b (useAt t k))
           key = λ i. (t .symbol ∷ length-take-le k (t .children) (omega arith) i ∷ sym (others-split k (t .children)) i, b (t .target) ∷ [])
 
@@ -176,7 +184,7 @@ module _ (a : ℕ) where
           profile-backward X b (t .symbol) (map b (t .children)) p ∙ h .sums-equal (t .symbol) (map b (t .children)) ∙ sym (profile-backward X b (t .symbol) (map b (t .children)) q)) (X .transitions))
       met forward h = each-flatMap (Met forward) _ (X .transitions)
           (each-implies (ProperTransition (X .ranks) (X .states)) _ (λ t k. each-map (Met forward) (useAt t) (below (length (t .children)))
-              (each-implies (λ i. i < length (t .children)) _ (λ i l _. level-at h t k i l) (below (length (t .children))) (each-below (length (t .children))))) (X .transitions) known)
+          (each-implies (λ i. i < length (t .children)) _ (λ i l _. level-at h t k i l) (below (length (t .children))) (each-below (length (t .children))))) (X .transitions) known)
 
       -- agreement by 01's definitions is agreement of profiles
       pub agree-profile : (d : Direction) → Agree a X d b p q → AgreeByProfile X d b p q
@@ -186,16 +194,31 @@ module _ (a : ℕ) where
       pub profile-agree : (d : Direction) → AgreeByProfile X d b p q → Agree a X d b p q
       profile-agree backward h = record { sums-equal = λ σ Ds. sym (profile-backward X b σ Ds p) ∙ h .1 (σ ∷ [], Ds) ∙ profile-backward X b σ Ds q }
       profile-agree forward h = record {
-          finals-equal = h .0;
-          sums-equal = λ σ before after l m D. sym (profile-forward b σ before p after D X) ∙ h .1 (σ ∷ length before ∷ before ++ after, D ∷ []) ∙ profile-forward b σ before q after D X }
+        finals-equal = h .0;
+        sums-equal = λ σ before after l m D. sym (profile-forward b σ before p after D X) ∙ h .1 (σ ∷ length before ∷ before ++ after, D ∷ []) ∙ profile-forward b σ before q after D X;
+      }
 
     -- agreement is an equivalence and survives merging, in both directions
     pub agreement : (d : Direction) → Agreement (X .states) (Agree a X d)
     agreement d = record {
-        agree-self = λ b p. profile-agree b p p d (A .agree-self b p);
-        agree-sym = λ b p q h. profile-agree b q p d (A .agree-sym b p q (agree-profile b p q d h));
-        agree-trans = λ b p q r h i. profile-agree b p r d (A .agree-trans b p q r (agree-profile b p q d h) (agree-profile b q r d i));
-        agree-merge = λ c b r p q h. profile-agree b p q d (A .agree-merge c b r p q (agree-profile c p q d h)) }
+      agree-self = λ b p. profile-agree b p p d (A .agree-self b p);
+      agree-sym = λ b p q h. profile-agree b q p d (A .agree-sym b p q (agree-profile b p q d h));
+      agree-trans = λ b p q r h i. profile-agree b p r d (A .agree-trans b p q r (agree-profile b p q d h) (agree-profile b q r d i));
+      agree-merge = λ c b r p q h. profile-agree b p q d (A .agree-merge c b r p q (agree-profile c p q d h));
+    }
       where
         A : Agreement (X .states) (AgreeByProfile X d)
         A = alike-agreement (arithmetic a) (X .states) (grade d X) (uses d (X .transitions)) (uses-known d)
+
+  -- backward, p depends on the children of the transitions into it; forward, on the targets of the transitions from it
+  pub independent-backward : (ts : List Transition) (b b′ : ℕ → ℕ) (p : ℕ) → Each (λ t. t .target ≡ p → Each (λ r. b r ≡ b′ r) (t .children)) ts
+      → Independent (arithmetic a) (uses backward ts) b b′ p
+  unfolding uses
+  independent-backward ts b b′ p m = each-map _ useInto ts m
+
+  pub independent-forward : (ts : List Transition) (b b′ : ℕ → ℕ) (p : ℕ) → Each (λ t. Each (λ q. q ≡ p → b (t .target) ≡ b′ (t .target)) (t .children)) ts
+      → Independent (arithmetic a) (uses forward ts) b b′ p
+  unfolding uses
+  independent-forward ts b b′ p m = each-flatMap _ _ ts (each-implies (λ t. Each (λ q. q ≡ p → b (t .target) ≡ b′ (t .target)) (t .children)) _
+      (λ t k. each-map _ (useAt t) (below (length (t .children))) (each-implies (λ i. i < length (t .children)) _
+      (λ i l e. (each-at (λ q. q ≡ p → b (t .target) ≡ b′ (t .target)) (t .children) i 0 k l e, tt)) (below (length (t .children))) (each-below (length (t .children))))) ts m)

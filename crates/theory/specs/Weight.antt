@@ -1,5 +1,5 @@
 -- The weight of a tree (document 01, "Definitions"; source 002, section 2), for trees of any size.
-use mathlib.Core.Bool.{Bool, _&&_}
+use mathlib.Core.Bool.{_&&_}
 use mathlib.Core.List.{List, [], _∷_}
 use Prim.Native.Nat.{ℕ}
 use lib.Dec.{eqb}
@@ -16,8 +16,8 @@ use Rattle.theory.specs.MaxPlus.{Value}
 -- The codes of a table, read in arithmetic a.
 module _ (a : ℕ) where
   open Semiring (arithmetic a) using (zero as 𝟘, one as 𝟙, times as _⊗_)
-  infixl 7 _⊗_
 
+  infixl 7 _⊗_
   -- the weight of a transition of σ with target q; zero for any other transition
   abbrev pub entering : ℕ → ℕ → Transition → Weight a
   entering σ q t = only (arithmetic a) (eqb (t .symbol) σ && eqb (t .target) q) (meaning a (t .code))

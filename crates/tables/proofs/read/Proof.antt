@@ -1,0 +1,57 @@
+use borrow.Author.Needs.{needs}
+use Rattle.tables.proofs.read.Statement.{statement}
+use Rattle.tables.proofs.read.Tie as tie
+use Rattle.tables.proofs.read.Reads as reads
+use Rattle.tables.proofs.read.Lts as lts
+use Rattle.tables.proofs.read_body.Reads as read-body-reads
+use Rattle.tables.proofs.read_header.Reads as read-header-reads
+
+-- src/lib.rt:393:11
+read-header-requires : tie.Need-read-header-requires
+read-header-requires c κs = search needs
+
+-- src/lib.rt:394:26
+enum-known-header : tie.Need-enum-known-header
+enum-known-header c = search needs
+
+-- src/lib.rt:395:19
+read-body-requires : tie.Need-read-body-requires
+read-body-requires c κs = search needs
+
+-- src/lib.rt:396:33
+enum-known-count : tie.Need-enum-known-count
+enum-known-count c = search needs
+
+-- src/lib.rt:411:35
+enum-known-refusal : tie.Need-enum-known-refusal
+enum-known-refusal c = search needs
+
+-- src/lib.rt:417:29
+enum-known-refusal-2 : tie.Need-enum-known-refusal-2
+enum-known-refusal-2 c = search needs
+
+-- src/lib.rt:384:1
+returns : tie.Need-returns
+returns c = search needs
+
+-- src/lib.rt:384:1
+returns-2 : tie.Need-returns-2
+returns-2 c = search needs
+
+-- src/lib.rt:384:1
+returns-3 : tie.Need-returns-3
+returns-3 c = search needs
+
+pub read-spec : {M : Type 1} → statement M
+read-spec =
+    tie.close
+    (tie.spec
+    read-header-requires
+    enum-known-header
+    read-body-requires
+    enum-known-count
+    enum-known-refusal
+    enum-known-refusal-2
+    returns
+    returns-2
+    returns-3)

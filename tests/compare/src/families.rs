@@ -1,0 +1,149 @@
+//! Families of inputs: tables of every kind, whole and damaged.
+
+use second::damage::{self, DAMAGES};
+use second::examples;
+use second::make::{self, KINDS};
+use second::number;
+use second::random::Random;
+use second::table::{self, Table};
+
+type Inputs = Box<dyn Iterator<Item = Vec<u8>>>;
+
+/// A named family. Its inputs are made anew each time they are asked for, the same each time.
+pub struct Family {
+    pub name: String,
+    pub seed: u64,
+    make: Box<dyn Fn() -> Inputs>,
+}
+
+impl Family {
+    pub fn inputs(&self) -> Inputs {
+        (self.make)()
+    }
+
+    /// A family of `count` random inputs.
+    fn random(
+        name: String,
+        count: usize,
+        seed: u64,
+        one: impl Fn(&mut Random) -> Vec<u8> + Copy + 'static,
+    ) -> Family {
+        let make = Box::new(move || {
+            let mut random = Random::new(seed);
+            Box::new((0..count).map(move |_| one(&mut random))) as Inputs
+        });
+        Family { name, seed, make }
+    }
+
+    /// A family of fixed inputs, or of all inputs of some sort.
+    fn listed(name: &str, make: fn() -> Inputs) -> Family {
+        Family {
+            name: name.to_string(),
+            seed: 0,
+            make: Box::new(make),
+        }
+    }
+}
+
+pub fn all(times: usize, seed: u64) -> Vec<Family> {
+    let mut families = vec![
+        Family::listed("every way to change one byte of A", a_with_one_byte_changed),
+        Family::listed("A cut at every length", a_cut),
+        Family::listed("every table of at most two bytes", at_most_two_bytes),
+        Family::listed("every spelling of one number", every_spelling),
+    ];
+    let seeds = &mut (seed..);
+    let mut next_seed = || seeds.next().expect("there are enough seeds");
+    for kind in &KINDS {
+        let name = format!("valid, {}", kind.name);
+        let count = times * if kind.light { 500 } else { 15 };
+        families.push(Family::random(name, count, next_seed(), |random| {
+            table::write(&(kind.make)(random))
+        }));
+    }
+    for damage in &DAMAGES {
+        let name = format!("damaged, {}", damage.name);
+        families.push(Family::random(name, 500 * times, next_seed(), |random| {
+            let table = some_table(random);
+            damage.apply(random, &table)
+        }));
+    }
+    families.push(Family::random(
+        "damaged, several damages".to_string(),
+        4_000 * times,
+        next_seed(),
+        |random| {
+            let table = some_table(random);
+            damage::several(random, &table)
+        },
+    ));
+    families.push(Family::random(
+        "random bytes".to_string(),
+        2_000 * times,
+        next_seed(),
+        random_bytes,
+    ));
+    families.push(Family::random(
+        "random small bytes".to_string(),
+        20_000 * times,
+        next_seed(),
+        random_small_bytes,
+    ));
+    families
+}
+
+/// Mostly small tables, on which a damage is likelier to meet another rule's edge.
+fn some_table(random: &mut Random) -> Table {
+    match random.below(40) {
+        0 => (KINDS[random.below(KINDS.len())].make)(random),
+        1..=9 => make::middle(random),
+        _ => make::small(random),
+    }
+}
+
+fn random_bytes(random: &mut Random) -> Vec<u8> {
+    let count = random.below(100);
+    random.bytes(count)
+}
+
+/// Bytes that are mostly tiny, so that the reader often gets as far as the transitions.
+fn random_small_bytes(random: &mut Random) -> Vec<u8> {
+    let count = random.within(5, 30);
+    let most = random.within(2, 4) as u8;
+    let byte = |_| {
+        if random.one_in(60) {
+            random.byte()
+        } else {
+            random.byte() % most
+        }
+    };
+    (0..count).map(byte).collect()
+}
+
+fn a_with_one_byte_changed() -> Inputs {
+    let places = (0..examples::A.len()).flat_map(|at| (0..=255).map(move |byte| (at, byte)));
+    Box::new(places.map(|(at, byte)| {
+        let mut table = examples::A.to_vec();
+        table[at] = byte;
+        table
+    }))
+}
+
+fn a_cut() -> Inputs {
+    Box::new((0..=examples::A.len()).map(|length| examples::A[..length].to_vec()))
+}
+
+fn at_most_two_bytes() -> Inputs {
+    let one = (0..=255).map(|byte| vec![byte]);
+    let two = (0..=255).flat_map(|first| (0..=255).map(move |second| vec![first, second]));
+    Box::new([vec![]].into_iter().chain(one).chain(two))
+}
+
+/// A table of one state whose final code is spelled in every way that matters: each length up to
+/// six bytes, each group empty or full or in between, and each last byte.
+fn every_spelling() -> Inputs {
+    let starts = (0..=5).flat_map(|length| [0x80, 0x81, 0xff].map(|byte| vec![byte; length]));
+    let spellings =
+        starts.flat_map(|start| (0..=255).map(move |last| [&start[..], &[last]].concat()));
+    Box::new(spellings.map(|code| [&[0, 1, 1, 0], &code[..], &number::written(0)].concat()))
+}
