@@ -1,0 +1,27 @@
+-- The written form of a number, from its lowest group on.
+use Prim.Native.Nat.{ℕ, zero, suc, _+_, _*_, _/_, _%_, _≤_, _<_, _^_}
+use mathlib.Core.Path.{_≡_, refl, sym, ap, _∙_}
+use mathlib.Core.List.{List, [], _∷_}
+use native.Mathlib.Omega.{arith}
+use native.Mathlib.Decide.{decLt}
+use Rattle.numbers.specs.Written.{groups, written}
+use Rattle.roundtrip.specs.Numbers.{groups-last, groups-more}
+
+-- what g more groups can hold
+abbrev bound : ℕ → ℕ
+bound zero = 128
+bound (suc g) = 128 * bound g
+
+groups-enough : (g n : ℕ) → n < bound g → groups (suc g) n ≡ groups g n
+groups-enough zero n h = groups-last 1 n h ∙ sym (groups-last 0 n h)
+groups-enough (suc g) n h = go (decLt n 128) (λ k. groups-enough g (n / 128) k)
+  where
+    go : Dec (n < 128) → (n / 128 < bound g → groups (suc g) (n / 128) ≡ groups g (n / 128)) → groups (suc (suc g)) n ≡ groups (suc g) n
+    go (yes k) f = groups-last (suc (suc g)) n k ∙ sym (groups-last (suc g) n k)
+    go (no k) f = groups-more (suc g) n (omega arith) ∙ ap (λ (l : List ℕ). (128 + n % 128) ∷ l) (f (omega arith)) ∙ sym (groups-more g n (omega arith))
+
+pub written-short : (n : ℕ) → n < 128 → written n ≡ n ∷ []
+written-short n h = groups-last 4 n h
+
+pub written-long : (n : ℕ) → 128 ≤ n → n < 2 ^ 32 → written n ≡ (128 + n % 128) ∷ written (n / 128)
+written-long n h k = groups-more 3 n h ∙ ap (λ (l : List ℕ). (128 + n % 128) ∷ l) (sym (groups-enough 3 (n / 128) (omega arith)))
