@@ -1,13 +1,12 @@
 -- What the reader's promise gives to the calls, case by case.
 use Prim.Native.Nat.{ℕ, _+_, _≤_, _<_}
 use mathlib.Core.Path.{_≡_, refl, sym, ap, _∙_, subst}
-use mathlib.Core.List.{List, [], _∷_, _++_}
+use mathlib.Core.List.{List, _++_}
 use native.Mathlib.Omega.{arith}
 use native.Mathlib.Nat.{zero-add}
-use lib.ListN.{length, take, drop, getD}
+use lib.ListN.{length, drop, getD}
 use lib.Seq.{sets, sets-eq}
 use borrow.Author.Tests.{le-leb, lt-leb}
-use Rattle.answers.specs.declared.Answer.{Answer}
 use Rattle.answers.specs.declared.Answer.the-variants.{Done, Refused}
 use Rattle.answers.specs.declared.Refusal.{Refusal}
 use Rattle.answers.specs.declared.Refusal.the-variants.{RoomTooShort}
@@ -22,7 +21,7 @@ use Rattle.roundtrip.specs.Tables.{table-sound}
 use Rattle.writer.specs.Put.{Put}
 use Rattle.writer.specs.Writable.{Writable}
 use Rattle.writer.proofs.Fields.{count-is}
-use Rattle.calls.specs.Answers.{checked, Checks, fits, fitted, filled, Rewrites}
+use Rattle.calls.specs.Answers.{checked, Checks, fits, Rewrites}
 
 pub reading-checks : (table : List ℕ) (r : Reading) → ReadingIs (tableRead table) r → Checks table (r .answer)
 reading-checks table r h = record { answer-is = go (tableRead table) h }
@@ -57,8 +56,8 @@ module _ (table : List ℕ) (bytes : (i : ℕ) → getD table i 0 < 256) (n : �
   pub taken-writable : Writable r
   taken-writable =
       record {
-          proper = subst Proper (sym (t .holds .table)) taken-proper;
-          symbols = t .holds .symbols ∙ sym (ap (λ (X : Table). length (X .ranks)) (t .holds .table))
+        proper = subst Proper (sym (t .holds .table)) taken-proper;
+        symbols = t .holds .symbols ∙ sym (ap (λ (X : Table). length (X .ranks)) (t .holds .table));
       }
 
   pub taken-count : r .count ≡ length (t .table .transitions)
@@ -75,8 +74,8 @@ module _ (table : List ℕ) (bytes : (i : ℕ) → getD table i 0 < 256) (n : �
       let l = long-as in
       let no : fits (bytesOf (t .table)) before ≡ _ = lt-leb (length (bytesOf (t .table))) (length before) (omega arith) in
       record {
-          answer-is = rw (t .seen, no, l);
-          room-is = rw (t .seen, no)
+        answer-is = rw (t .seen, no, l);
+        room-is = rw (t .seen, no);
       }
 
   pub rewrites-done : (before room : List ℕ) (next : ℕ) → length table ≤ length before → Put before 0 (bytesOf (tableOf r)) room next → Rewrites table before (Done next) room
@@ -87,8 +86,8 @@ module _ (table : List ℕ) (bytes : (i : ℕ) → getD table i 0 < 256) (n : �
       let end : next ≡ length (bytesOf (t .table)) = put .next-is ∙ zero-add (length (bytesOf (tableOf r))) ∙ ap length same in
       let front : sets before 0 (bytesOf (t .table)) ≡ bytesOf (t .table) ++ drop (0 + length (bytesOf (t .table))) before = sets-eq (bytesOf (t .table)) before 0 (omega arith) in
       record {
-          answer-is = rw (t .seen, yes-fits, end);
-          room-is = put .room-is ∙ rw (t .seen, yes-fits, same) (front ∙ ap (λ (k : ℕ). bytesOf (t .table) ++ drop k before) (zero-add (length (bytesOf (t .table)))))
+        answer-is = rw (t .seen, yes-fits, end);
+        room-is = put .room-is ∙ rw (t .seen, yes-fits, same) (front ∙ ap (λ (k : ℕ). bytesOf (t .table) ++ drop k before) (zero-add (length (bytesOf (t .table)))));
       }
 
 pub rewrites-refused : (table before : List ℕ) (refusal : Refusal) → tableRead table ≡ refused refusal → Rewrites table before (Refused refusal) before

@@ -1,13 +1,11 @@
 -- The promise of pick (document 01, "Pick").
 use Prim.Native.Nat.{ℕ, _+_}
-use mathlib.Core.Path.{_≡_, refl, sym, _∙_}
 use mathlib.Core.Bool.{Bool, true, false, cond}
 use mathlib.Core.List.{List, []}
 use lib.ListN.{length}
 use lib.Dec.{ltb, eqb}
 use denote.Ref.{RefT, ptr, now, at-last}
 use Rattle.answers.specs.Numbers.{codeOf, figureOf}
-use Rattle.answers.specs.declared.Refusal.{Refusal}
 use Rattle.model.specs.Table.{Table}
 use Rattle.format.specs.Read.{Found, found, refused, tableRead}
 use Rattle.calls.specs.declared.Size.{Size}

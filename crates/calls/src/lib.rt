@@ -1,7 +1,7 @@
 // The calls on tables: check, rewrite, pick. No caller is trusted to have looked at a table before.
 
-use answers::{Answer, Refusal};
-
+use answers::Answer;
+use answers::Refusal;
 ghost use mathlib.Core.Path.{_≡_};
 ghost use Prim.Native.Nat.{ℕ};
 ghost use Rattle.format.specs.Read.{tableRead};
@@ -54,7 +54,10 @@ fn size_of(table: &[u8]) -> SizeRead
     let reading = tables::read(table);
     let answer = reading.answer;
     match answer {
-        Answer::Done(states) => SizeRead::Taken(Size { states, transitions: reading.table.count }),
+        Answer::Done(states) => SizeRead::Taken(Size {
+            states,
+            transitions: reading.table.count,
+        }),
         Answer::Refused(refusal) => SizeRead::Refused(refusal),
     }
 }
@@ -118,9 +121,21 @@ pub fn pick_answer(first: &[u8], second: &[u8]) -> PickAnswer
         × (r .figure ≡ pickFigure (now (first .entry)) (now (second .entry)) (picked (now (first .entry)) (now (second .entry)))) ⌝ }
 {
     match compare(first, second) {
-        Choice::First => PickAnswer { code: 0, figure: first.len() },
-        Choice::Second => PickAnswer { code: 0, figure: second.len() },
-        Choice::RefusedFirst(refusal) => PickAnswer { code: answers::code(refusal), figure: answers::figure(refusal) },
-        Choice::RefusedSecond(refusal) => PickAnswer { code: 100 + answers::code(refusal), figure: answers::figure(refusal) },
+        Choice::First => PickAnswer {
+            code: 0,
+            figure: first.len(),
+        },
+        Choice::Second => PickAnswer {
+            code: 0,
+            figure: second.len(),
+        },
+        Choice::RefusedFirst(refusal) => PickAnswer {
+            code: answers::code(refusal),
+            figure: answers::figure(refusal),
+        },
+        Choice::RefusedSecond(refusal) => PickAnswer {
+            code: 100 + answers::code(refusal),
+            figure: answers::figure(refusal),
+        },
     }
 }

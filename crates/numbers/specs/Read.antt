@@ -6,10 +6,8 @@ use lib.ListN.{length, getD}
 use lib.Dec.{leb, ltb, eqb}
 use borrow.Author.Tests.{le-leb, lt-leb, lt-ltb, le-ltb, eq-eqb, ne-eqb}
 use native.Mathlib.Omega.{arith}
-use mathlib.Core.Path.{_≡_, refl, sym, ap}
-use Rattle.answers.specs.declared.Refusal.{Refusal}
+use mathlib.Core.Path.{_≡_}
 use Rattle.answers.specs.declared.Refusal.the-variants.{TableEnds, BadNumber}
-use Rattle.numbers.specs.declared.Cursor.{Cursor}
 use Rattle.numbers.specs.declared.NumberRead.{NumberRead}
 use Rattle.numbers.specs.declared.NumberRead.the-variants.{Number, Refused}
 

@@ -1,7 +1,6 @@
 // Numbers as bytes: groups of seven bits, lowest first, the top bit set on every byte but the last.
 
 use answers::Refusal;
-
 ghost use mathlib.Core.Path.{_≡_};
 ghost use Prim.Native.Nat.{ℕ, _+_, _≤_, _<_, _^_};
 ghost use lib.ListN.{length};
@@ -59,7 +58,10 @@ fn long_number(table: &[u8], first: usize, low: u32) -> NumberRead
         return NumberRead::Refused(Refusal::BadNumber(first));
     }
     if third < 128 {
-        return NumberRead::Number(low + 128 * (second - 128) + 16384 * third, Cursor { at: first + 3 });
+        return NumberRead::Number(
+            low + 128 * (second - 128) + 16384 * third,
+            Cursor { at: first + 3 },
+        );
     }
     if table.len() <= first + 3 {
         return NumberRead::Refused(Refusal::TableEnds(table.len()));
@@ -69,7 +71,10 @@ fn long_number(table: &[u8], first: usize, low: u32) -> NumberRead
         return NumberRead::Refused(Refusal::BadNumber(first));
     }
     if fourth < 128 {
-        return NumberRead::Number(low + 128 * (second - 128) + 16384 * (third - 128) + 2097152 * fourth, Cursor { at: first + 4 });
+        return NumberRead::Number(
+            low + 128 * (second - 128) + 16384 * (third - 128) + 2097152 * fourth,
+            Cursor { at: first + 4 },
+        );
     }
     if table.len() <= first + 4 {
         return NumberRead::Refused(Refusal::TableEnds(table.len()));
@@ -82,7 +87,11 @@ fn long_number(table: &[u8], first: usize, low: u32) -> NumberRead
         return NumberRead::Refused(Refusal::BadNumber(first));
     }
     NumberRead::Number(
-        low + 128 * (second - 128) + 16384 * (third - 128) + 2097152 * (fourth - 128) + 268435456 * fifth,
+        low
+            + 128 * (second - 128)
+            + 16384 * (third - 128)
+            + 2097152 * (fourth - 128)
+            + 268435456 * fifth,
         Cursor { at: first + 5 },
     )
 }

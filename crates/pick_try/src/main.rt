@@ -5,12 +5,84 @@ use libc::STDOUT_FILENO;
 
 fn main() {
     // document 01's table A, its backward collapse, and A with its last code changed
-    let a = [0u8, 3, 2, 0, 1, 0, 0, 1, 4, 0, 0, 3, 0, 1, 3, 1, 0, 2, 5, 1, 1, 2, 7];
+    let a = [
+        0u8,
+        3,
+        2,
+        0,
+        1,
+        0,
+        0,
+        1,
+        4,
+        0,
+        0,
+        3,
+        0,
+        1,
+        3,
+        1,
+        0,
+        2,
+        5,
+        1,
+        1,
+        2,
+        7,
+    ];
     let collapsed = [0u8, 2, 2, 0, 1, 0, 1, 2, 0, 0, 3, 1, 0, 1, 12];
-    let other = [0u8, 3, 2, 0, 1, 0, 0, 1, 4, 0, 0, 3, 0, 1, 3, 1, 0, 2, 5, 1, 1, 2, 8];
+    let other = [
+        0u8,
+        3,
+        2,
+        0,
+        1,
+        0,
+        0,
+        1,
+        4,
+        0,
+        0,
+        3,
+        0,
+        1,
+        3,
+        1,
+        0,
+        2,
+        5,
+        1,
+        1,
+        2,
+        8,
+    ];
     // A without its last transition, A with a state that is not in the table, and A's first bytes
     let shorter = [0u8, 3, 2, 0, 1, 0, 0, 1, 3, 0, 0, 3, 0, 1, 3, 1, 0, 2, 5];
-    let broken = [0u8, 3, 2, 0, 1, 0, 0, 1, 4, 0, 0, 3, 0, 1, 3, 1, 0, 3, 5, 1, 1, 2, 7];
+    let broken = [
+        0u8,
+        3,
+        2,
+        0,
+        1,
+        0,
+        0,
+        1,
+        4,
+        0,
+        0,
+        3,
+        0,
+        1,
+        3,
+        1,
+        0,
+        3,
+        5,
+        1,
+        1,
+        2,
+        7,
+    ];
     let cut = [0u8, 3, 2, 0, 1];
     show(&a, &collapsed);
     show(&collapsed, &a);

@@ -1,6 +1,6 @@
 -- The invariant of the loops that read numbers into an array, for ranks, final codes and children alike: what is in the array
 -- so far, and what the definition finds from here on, make up what the definition finds as a whole.
-use Prim.Native.Nat.{ℕ, zero, suc, _+_, _-_, _≤_, _<_}
+use Prim.Native.Nat.{ℕ, suc, _+_, _-_, _≤_, _<_}
 use mathlib.Core.Path.{_≡_, refl, sym, ap, _∙_, subst}
 use mathlib.Core.List.{List, [], _∷_, _++_, append-assoc, append-nil}
 use native.Mathlib.Omega.{arith}
@@ -11,7 +11,6 @@ use lib.Seq.{drop-set-add, take-suc-set, take-set-le, length-take-le}
 use Rattle.answers.specs.declared.Refusal.{Refusal}
 use Rattle.format.specs.Read.{Found, found, refused, many}
 use Rattle.tables.specs.Steps.{Filled}
-use Rattle.tables.specs.declared.Step.{Step}
 use Rattle.tables.specs.declared.Step.the-variants.{Next, Refused}
 
 -- what was found so far, in front of what is found from here on
@@ -68,13 +67,18 @@ module _ (item : ℕ → Found ℕ) (k from start : ℕ) (before : List ℕ) whe
       let left : k - i ≡ suc (k - (i + 1)) = omega arith in
       let whole = f .rest in
       record {
-          some = omega arith;
-          rest =
-              rw (e, slot array i n (omega arith), ← prefixed-prefixed (take i (drop from array)) (n ∷ []) (many item (k - (i + 1)) next),
-                  ← many-found item (k - (i + 1)) at n next g, ← left)
-              whole;
-          kept = rw (e, take-set-le from array (from + i) n (omega arith)) (f .kept);
-          long = length-set array place n ∙ f .long
+        some = omega arith;
+        rest =
+            rw (
+              e,
+              slot array i n (omega arith),
+              ← prefixed-prefixed (take i (drop from array)) (n ∷ []) (many item (k - (i + 1)) next),
+              ← many-found item (k - (i + 1)) at n next g,
+              ← left,
+            )
+            whole;
+        kept = rw (e, take-set-le from array (from + i) n (omega arith)) (f .kept);
+        long = length-set array place n ∙ f .long;
       }
 
   pub filling-ends : (array : List ℕ) (i at : ℕ) → Filling item k from start before array i at → k ≤ i → from + k ≤ length before

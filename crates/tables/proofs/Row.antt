@@ -1,15 +1,14 @@
 -- One transition: what is found number by number, and the row of the columns that it becomes.
-use Prim.Native.Nat.{ℕ, zero, suc, _+_, _*_, _≤_, _<_}
+use Prim.Native.Nat.{ℕ, zero, suc, _*_, _≤_, _<_}
 use mathlib.Core.Path.{_≡_, refl, sym, ap, _∙_, subst}
-use mathlib.Core.List.{List, [], _∷_}
+use mathlib.Core.List.{List, _∷_}
 use native.Mathlib.Omega.{arith}
 use lib.ListN.{length, take, drop, getD, set, length-set}
 use lib.Seq.{length-take-le, getD-take, getD-set-same, take-set-le}
 use Rattle.answers.specs.declared.Refusal.{Refusal}
 use Rattle.numbers.specs.declared.Cursor.{Cursor}
-use Rattle.model.specs.Table.{Transition}
-use Rattle.format.specs.Read.{Found, found, refused, after, any, oneOf, listed, many, transitionAt}
-use Rattle.tables.specs.Record.{Columns, columns, rowAt}
+use Rattle.format.specs.Read.{Found, found, refused, after, oneOf, listed, many, transitionAt}
+use Rattle.tables.specs.Record.{columns, rowAt}
 use Rattle.tables.specs.Steps.{Filled, Kept, Long}
 use Rattle.tables.specs.declared.Step.{Step}
 use Rattle.tables.specs.declared.Step.the-variants.{Next, Refused}
@@ -94,22 +93,22 @@ module _ (ranks symbol children stored target code : List ℕ) (j σ q w : ℕ) 
       → Kept j (columns ranks symbol children target code) (columns ranks (set symbol j σ) stored (set target j q) (set code j w))
   row-kept e =
       record {
-          ranks = refl;
-          symbol = take-set-le j symbol j σ (omega arith);
-          children = e;
-          target = take-set-le j target j q (omega arith);
-          code = take-set-le j code j w (omega arith)
+        ranks = refl;
+        symbol = take-set-le j symbol j σ (omega arith);
+        children = e;
+        target = take-set-le j target j q (omega arith);
+        code = take-set-le j code j w (omega arith);
       }
 
   pub row-long : length stored ≡ length children → Long (columns ranks symbol children target code)
       → Long (columns ranks (set symbol j σ) stored (set target j q) (set code j w))
   row-long e long =
       record {
-          ranks = long .ranks;
-          symbol = length-set symbol j σ ∙ long .symbol;
-          children = e ∙ long .children;
-          target = length-set target j q ∙ long .target;
-          code = length-set code j w ∙ long .code
+        ranks = long .ranks;
+        symbol = length-set symbol j σ ∙ long .symbol;
+        children = e ∙ long .children;
+        target = length-set target j q ∙ long .target;
+        code = length-set code j w ∙ long .code;
       }
 
 -- the numbers found are the first so many of the array

@@ -2,19 +2,19 @@
 -- make up what the definition finds as a whole.
 use Prim.Native.Nat.{ℕ, zero, suc, _+_, _-_, _*_, _≤_, _<_}
 use mathlib.Core.Path.{_≡_, refl, sym, ap, _∙_, subst}
-use mathlib.Core.Bool.{Bool, true, false}
+use mathlib.Core.Bool.{true, false}
 use mathlib.Core.List.{List, [], _∷_, _++_, append-nil}
 use native.Mathlib.Omega.{arith}
 use native.Mathlib.Nat.{sub-zero, add-zero, zero-add}
 use native.Mathlib.Numerals.{add-one}
-use lib.ListN.{length, take, drop, getD}
-use lib.Seq.{getD-take, take-take, take-nil, drop-nil}
+use lib.ListN.{take, drop, getD}
+use lib.Seq.{getD-take, take-take, take-nil}
 use Rattle.answers.specs.declared.Refusal.{Refusal}
 use Rattle.answers.specs.declared.Refusal.the-variants.{NotAbove}
 use Rattle.numbers.specs.declared.Cursor.{Cursor}
 use Rattle.model.specs.Table.{Transition, key, lower}
 use Rattle.format.specs.Read.{Found, found, refused, after, transitionAt, transitionsAt}
-use Rattle.tables.specs.Record.{Columns, rowAt, rowsFrom, keyAt, keyBefore}
+use Rattle.tables.specs.Record.{Columns, rowAt, rowsFrom, keyBefore}
 use Rattle.tables.specs.Steps.{Small, Kept, Long, RowRead, RowsRead}
 use Rattle.tables.specs.declared.Step.{Step}
 use Rattle.tables.specs.declared.Step.the-variants.{Next, Refused}
@@ -50,9 +50,13 @@ module _ (before columns : Columns) (j : ℕ) (kept : Kept j before columns) (sm
 
   row-same : (i : ℕ) → i < j → rowAt columns i ≡ rowAt before i
   row-same i h =
-      rw (kept .ranks, same-at (columns .symbol) (before .symbol) i h (kept .symbol),
-          same-part (getD (before .ranks) (getD (before .symbol) i 0) 0) i h (small (getD (before .symbol) i 0)),
-          same-at (columns .target) (before .target) i h (kept .target), same-at (columns .code) (before .code) i h (kept .code))
+      rw (
+        kept .ranks,
+        same-at (columns .symbol) (before .symbol) i h (kept .symbol),
+        same-part (getD (before .ranks) (getD (before .symbol) i 0) 0) i h (small (getD (before .symbol) i 0)),
+        same-at (columns .target) (before .target) i h (kept .target),
+        same-at (columns .code) (before .code) i h (kept .code),
+      )
 
   rows-kept : rowsFrom columns 0 j ≡ rowsFrom before 0 j
   rows-kept = rows-same columns before 0 j (λ i p q. row-same i (omega arith))
@@ -125,7 +129,7 @@ module _ (s ranks : List ℕ) (states count start : ℕ) where
         → RowsRead (transitionsAt s ranks states count [] start) count columns (Refused refusal)
     rowing-refused refusal e =
         let whole : refused refusal ≡ transitionsAt s ranks states count [] start =
-            rw (one-less, transitions-refused s ranks states (count - (j + 1)) at (keyBelow before j) refusal e) at (so-far .rest) in
+        rw (one-less, transitions-refused s ranks states (count - (j + 1)) at (keyBelow before j) refusal e) at (so-far .rest) in
         subst (λ (r : Found (List Transition)). RowsRead r count columns (Refused refusal)) whole refl
 
     module _ (next : ℕ) (seen : transitionAt s ranks states at ≡ found (rowAt columns j) next) (kept : Kept j before columns) (small : Small (before .ranks)) where
@@ -134,22 +138,27 @@ module _ (s ranks : List ℕ) (states count start : ℕ) where
       rowing-not-above low =
           let low′ : lower (keyBelow before j) (key (rowAt columns j)) ≡ false = rw (key-kept before columns j kept small) at low in
           let whole : refused (NotAbove at) ≡ transitionsAt s ranks states count [] start =
-              rw (one-less, transitions-not-above s ranks states (count - (j + 1)) at next (keyBelow before j) (rowAt columns j) seen low′) at (so-far .rest) in
+          rw (one-less, transitions-not-above s ranks states (count - (j + 1)) at next (keyBelow before j) (rowAt columns j) seen low′) at (so-far .rest) in
           subst (λ (r : Found (List Transition)). RowsRead r count columns (Refused (NotAbove at))) whole refl
 
       pub rowing-goes-on : lower (keyBelow columns j) (key (rowAt columns j)) ≡ true → Long columns → Rowing s ranks states count start columns (j + 1) next
       rowing-goes-on high long =
           let high′ : lower (keyBelow before j) (key (rowAt columns j)) ≡ true = rw (key-kept before columns j kept small) at high in
           let rows : rowsFrom columns 0 (j + 1) ≡ rowsFrom before 0 j ++ (rowAt columns j ∷ []) =
-              rw (add-one j, rows-snoc columns 0 j, zero-add j, rows-kept before columns j kept small) in
+          rw (add-one j, rows-snoc columns 0 j, zero-add j, rows-kept before columns j kept small) in
           let below : keyBelow columns (j + 1) ≡ key (rowAt columns j) = rw (add-one j) in
           record {
-              some = omega arith;
-              long = long;
-              rest =
-                  rw (rows, below, ← prefixed-prefixed (rowsFrom before 0 j) (rowAt columns j ∷ []) (transitionsAt s ranks states (count - (j + 1)) (key (rowAt columns j)) next),
-                      ← transitions-found s ranks states (count - (j + 1)) at next (keyBelow before j) (rowAt columns j) seen high′, ← one-less)
-                  (so-far .rest)
+            some = omega arith;
+            long = long;
+            rest =
+                rw (
+                  rows,
+                  below,
+                  ← prefixed-prefixed (rowsFrom before 0 j) (rowAt columns j ∷ []) (transitionsAt s ranks states (count - (j + 1)) (key (rowAt columns j)) next),
+                  ← transitions-found s ranks states (count - (j + 1)) at next (keyBelow before j) (rowAt columns j) seen high′,
+                  ← one-less,
+                )
+                (so-far .rest);
           }
 
   pub rowing-ends : (columns : Columns) (j at : ℕ) → Rowing s ranks states count start columns j at → count ≤ j
@@ -159,7 +168,7 @@ module _ (s ranks : List ℕ) (states count start : ℕ) where
       let all : j ≡ count = omega arith in
       let none : count - j ≡ 0 = omega arith in
       let whole : found (rowsFrom columns 0 j ++ []) at ≡ transitionsAt s ranks states count [] start =
-          rw (none, transitions-none s ranks states at (keyBelow columns j)) at (so-far .rest) in
+      rw (none, transitions-none s ranks states at (keyBelow columns j)) at (so-far .rest) in
       subst (λ (r : Found (List Transition)). RowsRead r count columns (Next (record { at = at }))) whole
       (refl, rw (append-nil, all))
 

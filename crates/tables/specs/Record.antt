@@ -21,10 +21,10 @@ columns ranks symbol children target code = record { ranks = ranks; symbol = sym
 abbrev pub rowAt : Columns → ℕ → Transition
 rowAt c j =
     record {
-        symbol = getD (c .symbol) j 0;
-        children = take (getD (c .ranks) (getD (c .symbol) j 0) 0) (drop (j * 4) (c .children));
-        target = getD (c .target) j 0;
-        code = getD (c .code) j 0
+      symbol = getD (c .symbol) j 0;
+      children = take (getD (c .ranks) (getD (c .symbol) j 0) 0) (drop (j * 4) (c .children));
+      target = getD (c .target) j 0;
+      code = getD (c .code) j 0;
     }
 
 -- k transitions of the columns, from transition j on
@@ -44,11 +44,11 @@ keyBefore ranks symbol children target (suc j) = keyAt ranks symbol children tar
 abbrev pub tableIn : ℕ → ℕ → ℕ → ℕ → List ℕ → Columns → Table
 tableIn arithmetic states symbols count finals c =
     record {
-        arithmetic = arithmetic;
-        states = states;
-        ranks = take symbols (c .ranks);
-        finals = take states finals;
-        transitions = rowsFrom c 0 count
+      arithmetic = arithmetic;
+      states = states;
+      ranks = take symbols (c .ranks);
+      finals = take states finals;
+      transitions = rowsFrom c 0 count;
     }
 
 -- the table that a record is

@@ -1,9 +1,10 @@
 // Tables in memory: the record, and the reader that makes one of bytes.
 
-use answers::{Answer, Refusal};
-use numbers::{Cursor, NumberRead};
+use answers::Answer;
+use answers::Refusal;
+use numbers::Cursor;
+use numbers::NumberRead;
 use states::State;
-
 ghost use mathlib.Core.Path.{_≡_};
 ghost use Prim.Native.Nat.{ℕ, _+_, _*_, _≤_, _<_};
 ghost use mathlib.Core.List.{[]};
@@ -147,7 +148,14 @@ fn read_finals(table: &[u8], place: Cursor, states: usize, finals: &mut [u32; 25
 }
 
 // The children of a transition, from `from` on.
-fn read_children(table: &[u8], place: Cursor, states: usize, rank: usize, from: usize, children: &mut [u8; 16000]) -> Step
+fn read_children(
+    table: &[u8],
+    place: Cursor,
+    states: usize,
+    rank: usize,
+    from: usize,
+    children: &mut [u8; 16000],
+) -> Step
     requires { ⌜ (states ≤ 256) × (from + rank ≤ 16000) × (length (now children) ≡ 16000) ⌝ }
     ensures { λ r. ⌜ Filled (many (oneOf (now (table .entry)) states) rank (place .at)) from (now (children .entry)) (now (children .exit)) r ⌝ }
 {
@@ -175,7 +183,13 @@ fn wide(byte: u8) -> usize
 }
 
 // Whether transition j is above the one before it: by symbol, then children left to right, then target.
-fn ascends<'a>(j: usize, ranks: &'a [u8; 128], symbol: &'a [u8; 4000], children: &'a [u8; 16000], target: &'a [u8; 4000]) -> bool
+fn ascends<'a>(
+    j: usize,
+    ranks: &'a [u8; 128],
+    symbol: &'a [u8; 4000],
+    children: &'a [u8; 16000],
+    target: &'a [u8; 4000],
+) -> bool
     requires { ⌜ (j < 4000) × (getD (now symbol) j 0 < 128) × (length (now ranks) ≡ 128) × (length (now symbol) ≡ 4000) × (length (now children) ≡ 16000) × (length (now target) ≡ 4000) × Small (now ranks) ⌝ }
     ensures { λ r. ⌜ r ≡ lower (keyBefore (now (ranks .entry)) (now (symbol .entry)) (now (children .entry)) (now (target .entry)) j) (keyAt (now (ranks .entry)) (now (symbol .entry)) (now (children .entry)) (now (target .entry)) j) ⌝ }
 {
@@ -204,7 +218,18 @@ fn ascends<'a>(j: usize, ranks: &'a [u8; 128], symbol: &'a [u8; 4000], children:
 }
 
 // Transition j: symbol, children, target, code.
-fn read_transition(table: &[u8], place: Cursor, states: usize, symbols: usize, j: usize, ranks: &[u8; 128], symbol: &mut [u8; 4000], children: &mut [u8; 16000], target: &mut [u8; 4000], code: &mut [u32; 4000]) -> Step
+fn read_transition(
+    table: &[u8],
+    place: Cursor,
+    states: usize,
+    symbols: usize,
+    j: usize,
+    ranks: &[u8; 128],
+    symbol: &mut [u8; 4000],
+    children: &mut [u8; 16000],
+    target: &mut [u8; 4000],
+    code: &mut [u32; 4000],
+) -> Step
     requires { ⌜ (states ≤ 256) × (symbols ≤ 128) × (j < 4000) × Small (now ranks) × Long (columns (now ranks) (now symbol) (now children) (now target) (now code)) ⌝ }
     ensures { λ r. ⌜ RowRead (transitionAt (now (table .entry)) (take symbols (now (ranks .entry))) states (place .at)) j
         (columns (now (ranks .entry)) (now (symbol .entry)) (now (children .entry)) (now (target .entry)) (now (code .entry)))
@@ -252,7 +277,18 @@ fn read_transition(table: &[u8], place: Cursor, states: usize, symbols: usize, j
 }
 
 // The transitions, each above the one before.
-fn read_transitions(table: &[u8], place: Cursor, states: usize, symbols: usize, count: usize, ranks: &[u8; 128], symbol: &mut [u8; 4000], children: &mut [u8; 16000], target: &mut [u8; 4000], code: &mut [u32; 4000]) -> Step
+fn read_transitions(
+    table: &[u8],
+    place: Cursor,
+    states: usize,
+    symbols: usize,
+    count: usize,
+    ranks: &[u8; 128],
+    symbol: &mut [u8; 4000],
+    children: &mut [u8; 16000],
+    target: &mut [u8; 4000],
+    code: &mut [u32; 4000],
+) -> Step
     requires { ⌜ (states ≤ 256) × (symbols ≤ 128) × (count ≤ 4000) × Small (now ranks) × Long (columns (now ranks) (now symbol) (now children) (now target) (now code)) ⌝ }
     ensures { λ r. ⌜ RowsRead (transitionsAt (now (table .entry)) (take symbols (now (ranks .entry))) states count [] (place .at)) count
         (columns (now (ranks .entry)) (now (symbol .exit)) (now (children .exit)) (now (target .exit)) (now (code .exit))) r ⌝ }
@@ -261,7 +297,18 @@ fn read_transitions(table: &[u8], place: Cursor, states: usize, symbols: usize, 
     let mut j = 0;
     while j < count {
         let first = next.at;
-        match read_transition(table, next, states, symbols, j, ranks, symbol, children, target, code) {
+        match read_transition(
+            table,
+            next,
+            states,
+            symbols,
+            j,
+            ranks,
+            symbol,
+            children,
+            target,
+            code,
+        ) {
             Step::Next(behind) => {
                 next = behind;
             }
@@ -315,7 +362,12 @@ fn read_header(table: &[u8]) -> HeaderRead
         }
     }
     match number_within(table, next, 1, 128) {
-        NumberRead::Number(n, behind) => HeaderRead::Read(Header { arithmetic, states, symbols: n as usize, next: behind }),
+        NumberRead::Number(n, behind) => HeaderRead::Read(Header {
+            arithmetic,
+            states,
+            symbols: n as usize,
+            next: behind,
+        }),
         NumberRead::Refused(refusal) => HeaderRead::Refused(refusal),
     }
 }
@@ -327,7 +379,16 @@ pub enum BodyRead {
 }
 
 // What stands behind the header, into the arrays of a record.
-fn read_body(table: &[u8], header: Header, ranks: &mut [u8; 128], finals: &mut [u32; 256], symbol: &mut [u8; 4000], children: &mut [u8; 16000], target: &mut [u8; 4000], code: &mut [u32; 4000]) -> BodyRead
+fn read_body(
+    table: &[u8],
+    header: Header,
+    ranks: &mut [u8; 128],
+    finals: &mut [u32; 256],
+    symbol: &mut [u8; 4000],
+    children: &mut [u8; 16000],
+    target: &mut [u8; 4000],
+    code: &mut [u32; 4000],
+) -> BodyRead
     requires { ⌜ HeaderFound (now table) header × Small (now ranks) × (length (now finals) ≡ 256) × Long (columns (now ranks) (now symbol) (now children) (now target) (now code)) ⌝ }
     ensures { λ r. ⌜ BodyIs (now (table .entry)) header (now (finals .exit)) (columns (now (ranks .exit)) (now (symbol .exit)) (now (children .exit)) (now (target .exit)) (now (code .exit))) r ⌝ }
 {
@@ -360,7 +421,18 @@ fn read_body(table: &[u8], header: Header, ranks: &mut [u8; 128], finals: &mut [
             return BodyRead::Refused(refusal);
         }
     }
-    match read_transitions(table, next, states, symbols, count, ranks, symbol, children, target, code) {
+    match read_transitions(
+        table,
+        next,
+        states,
+        symbols,
+        count,
+        ranks,
+        symbol,
+        children,
+        target,
+        code,
+    ) {
         Step::Next(behind) => {
             next = behind;
         }
@@ -392,7 +464,16 @@ pub fn read(table: &[u8]) -> Reading
     let mut code = [0u32; 4000];
     match read_header(table) {
         HeaderRead::Read(header) => {
-            match read_body(table, header, &mut ranks, &mut finals, &mut symbol, &mut children, &mut target, &mut code) {
+            match read_body(
+                table,
+                header,
+                &mut ranks,
+                &mut finals,
+                &mut symbol,
+                &mut children,
+                &mut target,
+                &mut code,
+            ) {
                 BodyRead::Count(count) => Reading {
                     answer: Answer::Done(header.states),
                     table: TableRecord {
@@ -410,13 +491,35 @@ pub fn read(table: &[u8]) -> Reading
                 },
                 BodyRead::Refused(refusal) => Reading {
                     answer: Answer::Refused(refusal),
-                    table: TableRecord { arithmetic: 0, states: 0, symbols: 0, count: 0, ranks, finals, symbol, children, target, code },
+                    table: TableRecord {
+                        arithmetic: 0,
+                        states: 0,
+                        symbols: 0,
+                        count: 0,
+                        ranks,
+                        finals,
+                        symbol,
+                        children,
+                        target,
+                        code,
+                    },
                 },
             }
         }
         HeaderRead::Refused(refusal) => Reading {
             answer: Answer::Refused(refusal),
-            table: TableRecord { arithmetic: 0, states: 0, symbols: 0, count: 0, ranks, finals, symbol, children, target, code },
+            table: TableRecord {
+                arithmetic: 0,
+                states: 0,
+                symbols: 0,
+                count: 0,
+                ranks,
+                finals,
+                symbol,
+                children,
+                target,
+                code,
+            },
         },
     }
 }

@@ -6,7 +6,9 @@ use mathlib.Core.List.{List, [], _∷_}
 use Prim.Native.Nat.{ℕ, zero, suc, _+_, _<_, _≤_}
 use native.Mathlib.Omega.{arith}
 use lib.Dec.{eqb}
+use lib.ListN.{length, getD}
 use Rattle.model.specs.Table.{Each}
+use Rattle.theory.specs.Each.{each-at}
 use Rattle.theory.specs.Equality.{numbers, equal-or-not, same-true, same-false, false-differ}
 use Rattle.theory.specs.Semiring.{Semiring}
 use Rattle.theory.specs.Sum.{only, sum, zero-plus}
@@ -21,12 +23,29 @@ upFrom i (suc k) = i ∷ upFrom (suc i) k
 abbrev pub below : ℕ → List ℕ
 below n = upFrom 0 n
 
+pub length-upFrom : (i k : ℕ) → length (upFrom i k) ≡ k
+length-upFrom i zero = refl
+length-upFrom i (suc k) = ap suc (length-upFrom (suc i) k)
+
 pub each-upFrom : (i k n : ℕ) → i + k ≤ n → Each (λ q. q < n) (upFrom i k)
 each-upFrom i zero n h = tt
 each-upFrom i (suc k) n h = (omega arith, each-upFrom (suc i) k n (omega arith))
 
 pub each-below : (n : ℕ) → Each (λ q. q < n) (below n)
 each-below n = each-upFrom 0 n n (omega arith)
+
+-- the number at a place
+getD-upFrom : (i k q : ℕ) → q < k → getD (upFrom i k) q 0 ≡ i + q
+getD-upFrom i zero q l = absurd (omega arith)
+getD-upFrom i (suc k) zero l = omega arith
+getD-upFrom i (suc k) (suc q) l = omega (arith, getD-upFrom (suc i) k q (omega arith))
+
+pub getD-below : (n q : ℕ) → q < n → getD (below n) q 0 ≡ q
+getD-below n q l = omega (arith, getD-upFrom 0 n q l)
+
+-- what holds of each number below n, as a list
+pub below-each : (P : ℕ → Type 0) (n : ℕ) → Each P (below n) → (q : ℕ) → q < n → P q
+below-each P n m q l = subst P (getD-below n q l) (each-at P (below n) q 0 m (omega (arith, length-upFrom 0 n)))
 
 module _ (S : Semiring) where
   open Semiring S using (Carrier, zero as 𝟘, plus as _⊕_, plus-zero)

@@ -117,12 +117,25 @@ module _ (n : ℕ) (b c : ℕ → ℕ) (B : FirstUse n b) (C : FirstUse n c) (do
   firstUse-unique q l = equal-below n (omega arith) q l
 
 -- each state its own block
-blockCount-self : (i : ℕ) → blockCount (λ q. q) i ≡ i
-blockCount-self zero = refl
-blockCount-self (suc i) = rw (blockCount-self i) (omega arith)
+module _ (n : ℕ) (b : ℕ → ℕ) (own : (q : ℕ) → q < n → b q ≡ q) where
+  pub blockCount-own : (i : ℕ) → i ≤ n → blockCount b i ≡ i
+  blockCount-own zero l = refl
+  blockCount-own (suc i) l = rw (blockCount-own i (omega arith)) (omega (arith, own i l))
 
-pub firstUse-self : (n : ℕ) → FirstUse n (λ q. q)
-firstUse-self n = record { next = λ i l. omega (arith, blockCount-self i) }
+  pub firstUse-own : FirstUse n b
+  firstUse-own = record { next = λ i l. omega (arith, own i l, blockCount-own i (omega arith)) }
+
+-- where there are as many blocks as states, each state is its own block
+pub blockCount-all : (n : ℕ) (b : ℕ → ℕ) → FirstUse n b → (i : ℕ) → i ≤ n → blockCount b i ≡ i → (q : ℕ) → q < i → b q ≡ q
+blockCount-all n b numbered zero le e q l = absurd (omega arith)
+blockCount-all n b numbered (suc i) le e q l = go (decLt q i) (blockCount-all n b numbered i (omega arith) (omega (arith, few, numbered .next i le)) q)
+  where
+    few : blockCount b i ≤ i
+    few = blockCount-few n b numbered i (omega arith)
+
+    go : Dec (q < i) → (q < i → b q ≡ q) → b q ≡ q
+    go (yes k) ih = ih k
+    go (no h) ih = let f : i ≡ q = omega arith in subst (λ (x : ℕ). b x ≡ x) f (omega (arith, few, numbered .next i le))
 
 -- the greatest of the n states in a block, if there is one
 abbrev pub member : (ℕ → ℕ) → ℕ → ℕ → ℕ

@@ -1,5 +1,5 @@
 -- What holds of each member of a list.
-use mathlib.Core.Path.{refl}
+use mathlib.Core.Path.{_≡_, refl, sym, ap₂, subst}
 use mathlib.Core.List.{List, [], _∷_, _++_, map, flatMap, List·Memᴰ, List·Memᴰ·head, List·Memᴰ·tail}
 use Prim.Native.Nat.{ℕ, zero, suc, _<_}
 use native.Mathlib.Omega.{arith}
@@ -17,6 +17,10 @@ each-all P h (x ∷ xs) = (h x, each-all P h xs)
 pub each-members : {A : Type 0} (P : A → Type 0) (xs : List A) → ((x : A) → List·Memᴰ x xs → P x) → Each P xs
 each-members P [] h = tt
 each-members P (x ∷ xs) h = (h x (List·Memᴰ·head refl), each-members P xs (λ y m. h y (List·Memᴰ·tail m)))
+
+pub each-member : {A : Type 0} (P : A → Type 0) (xs : List A) → Each P xs → {x : A} → List·Memᴰ x xs → P x
+each-member P (x ∷ xs) m (List·Memᴰ·head e) = subst P (sym e) (m .0)
+each-member P (x ∷ xs) m (List·Memᴰ·tail n) = each-member P xs (m .1) n
 
 pub each-append : {A : Type 0} (P : A → Type 0) (xs ys : List A) → Each P xs → Each P ys → Each P (xs ++ ys)
 each-append P [] ys m n = n
@@ -51,3 +55,12 @@ pub each-at : {A : Type 0} (P : A → Type 0) (xs : List A) (i : ℕ) (d : A) �
 each-at P [] i d m l = absurd (omega arith)
 each-at P (x ∷ xs) zero d m l = m .0
 each-at P (x ∷ xs) (suc i) d m l = each-at P xs i d (m .1) (omega arith)
+
+pub each-places : {A : Type 0} (P : A → Type 0) (xs : List A) (d : A) → ((i : ℕ) → i < length xs → P (getD xs i d)) → Each P xs
+each-places P [] d h = tt
+each-places P (x ∷ xs) d h = (h 0 (omega arith), each-places P xs d (λ i l. h (suc i) (omega arith)))
+
+-- functions that are equal at the members
+pub map-each : {A B : Type 0} (P : A → Type 0) (f g : A → B) → ((x : A) → P x → f x ≡ g x) → (xs : List A) → Each P xs → map f xs ≡ map g xs
+map-each P f g h [] m = refl
+map-each P f g h (x ∷ xs) m = ap₂ _∷_ (h x (m .0)) (map-each P f g h xs (m .1))

@@ -1,8 +1,8 @@
 -- Types whose equality is a test that computes: numbers, lists of numbers, pairs.
-use mathlib.Core.Path.{_≡_, refl, sym, ap₂, subst, _∙_}
+use mathlib.Core.Path.{_≡_, refl, sym, ap, ap₂, subst, _∙_}
 use mathlib.Core.Logic.{_⊎_, inl, inr, _≢_}
-use mathlib.Core.Bool.{Bool, true, false, _&&_}
-use mathlib.Core.List.{List, [], _∷_}
+use mathlib.Core.Bool.{Bool, true, false, _&&_, and-true, and-false, and-assoc}
+use mathlib.Core.List.{List, [], _∷_, _++_}
 use Prim.Native.Nat.{ℕ}
 use lib.Dec.{T, eqb, eqb→eq, eqb-refl}
 
@@ -33,6 +33,9 @@ and-first false d t = t
 pub and-second : (c d : Bool) → T (c && d) → T d
 and-second true d t = t
 and-second false d t = absurd t
+
+pub and-parts : (c d : Bool) → T (c && d) → T c × T d
+and-parts c d t = (and-first c d t, and-second c d t)
 
 pub and-both : (c d : Bool) → T c → T d → T (c && d)
 and-both true d s t = t
@@ -86,6 +89,17 @@ sameList-equal (x ∷ xs) (y ∷ ys) t =
 pub sameList-self : (xs : List ℕ) → T (sameList xs xs)
 sameList-self [] = tt
 sameList-self (x ∷ xs) = and-both (eqb x x) (sameList xs xs) (eqb-refl x) (sameList-self xs)
+
+-- lists with a last entry
+empty-last : (ys : List ℕ) (y : ℕ) → (sameList [] (ys ++ (y ∷ [])) ≡ false) × (sameList (ys ++ (y ∷ [])) [] ≡ false)
+empty-last [] y = (refl, refl)
+empty-last (x ∷ ys) y = (refl, refl)
+
+pub sameList-last : (xs ys : List ℕ) (x y : ℕ) → sameList (xs ++ (x ∷ [])) (ys ++ (y ∷ [])) ≡ (sameList xs ys && eqb x y)
+sameList-last [] [] x y = and-true (eqb x y)
+sameList-last [] (z ∷ ys) x y = ap (_&&_ (eqb x z)) (empty-last ys y .0) ∙ and-false (eqb x z)
+sameList-last (z ∷ xs) [] x y = ap (_&&_ (eqb z y)) (empty-last xs x .1) ∙ and-false (eqb z y)
+sameList-last (z ∷ xs) (w ∷ ys) x y = ap (_&&_ (eqb z w)) (sameList-last xs ys x y) ∙ sym (and-assoc (eqb z w) (sameList xs ys) (eqb x y))
 
 abbrev pub lists : Equality (List ℕ)
 lists = record { same = sameList; same-equal = sameList-equal; same-self = sameList-self }

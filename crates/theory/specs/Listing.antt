@@ -1,13 +1,17 @@
 -- Lists of entries with ascending keys: what such a list has for each key decides it, if no entry is zero.
 use mathlib.Core.Path.{_≡_, refl, sym, ap, ap₂, _∙_, subst}
 use mathlib.Core.Logic.{_⊎_, inl, inr, _≢_}
-use mathlib.Core.Bool.{Bool, false, cond}
-use mathlib.Core.List.{List, [], _∷_}
+use mathlib.Core.Bool.{Bool, true, false, cond}
+use mathlib.Core.List.{List, [], _∷_, List·Memᴰ, List·Memᴰ·head, List·Memᴰ·tail}
+use Prim.Native.Nat.{_≤_}
+use native.Mathlib.Omega.{arith}
 use lib.Dec.{T}
+use lib.ListN.{length}
 use Rattle.model.specs.Table.{Each}
-use Rattle.theory.specs.Equality.{Equality, equal-or-not, same-true, same-false}
+use Rattle.theory.specs.Equality.{Equality, equal-or-not, same-true, same-false, same-comm}
 use Rattle.theory.specs.Semiring.{Semiring}
 use Rattle.theory.specs.Sum.{only, sum, zero-plus}
+use Rattle.theory.specs.Grouping.{without, without-fewer, without-member, keySum}
 use Rattle.theory.specs.Order.{Order}
 
 -- Entries X with a key and a value; `none` stands for a value that is not listed.
@@ -40,9 +44,52 @@ module _ {X K W : Type 0} (E : Equality K) (O : Order K) (key : X → K) (value 
   listed-below k [] r = refl
   listed-below k (x ∷ xs) r = listed-skip x xs k (under-differs (key x) k (r .0)) ∙ listed-below k xs (rising-above k (key x) (r .0) xs (r .1))
 
-  -- a sum that selects a key is what is listed for it
+  pub rising-member : (k : K) (xs : List X) → Rising k xs → {x : X} → List·Memᴰ x xs → T (O .under k (key x))
+  rising-member k (x ∷ xs) r (List·Memᴰ·head e) = subst (λ (y : X). T (O .under k (key y))) (sym e) (r .0)
+  rising-member k (x ∷ xs) r {x = y} (List·Memᴰ·tail m) = O .under-trans k (key x) (key y) (r .0) (rising-member (key x) xs (r .1) m)
+
+  later-differs : (x y : X) → T (O .under (key x) (key y)) → E .same (key x) (key y) ≡ false
+  later-differs x y l = same-comm E (key x) (key y) ∙ under-differs (key y) (key x) l
+
+  -- an entry is what is listed for its key
+  pub listed-member : (k : K) (xs : List X) → Rising k xs → {x : X} → List·Memᴰ x xs → listed xs (key x) ≡ value x
+  listed-member k (x ∷ xs) r (List·Memᴰ·head e) = subst (λ (y : X). listed (x ∷ xs) (key y) ≡ value y) (sym e) (listed-first x xs)
+  listed-member k (x ∷ xs) r {x = y} (List·Memᴰ·tail m) =
+      listed-skip x xs (key y) (later-differs x y (rising-member (key x) xs (r .1) m)) ∙ listed-member (key x) xs (r .1) m
+
+  -- there are no more entries than keys
+  pub rising-few : (k : K) (xs : List X) → Rising k xs → (js : List K) → ((x : X) → List·Memᴰ x xs → List·Memᴰ (key x) js) → length xs ≤ length js
+  rising-few k [] r js h = omega arith
+  rising-few k (x ∷ xs) r js h = omega (
+    arith,
+    without-fewer E (key x) js (h x (List·Memᴰ·head refl)),
+    rising-few (key x) xs (r .1) (without E (key x) js)
+        (λ y m. without-member E (key x) (key y) js (later-differs x y (rising-member (key x) xs (r .1) m)) (h y (List·Memᴰ·tail m))),
+  )
+
+  -- an entry has the key, or nothing is listed for it
+  pub listed-met : (k : K) (xs : List X) → ((x : X) × List·Memᴰ x xs × (key x ≡ k)) ⊎ (listed xs k ≡ none)
+  listed-met k [] = inr refl
+  listed-met k (x ∷ xs) = go (equal-or-not E (key x) k) (listed-met k xs)
+    where
+      go : (key x ≡ k) ⊎ (E .same (key x) k ≡ false) → ((y : X) × List·Memᴰ y xs × (key y ≡ k)) ⊎ (listed xs k ≡ none)
+          → ((y : X) × List·Memᴰ y (x ∷ xs) × (key y ≡ k)) ⊎ (listed (x ∷ xs) k ≡ none)
+      go (inl e) r = inl (x, List·Memᴰ·head refl, e)
+      go (inr e) (inl r) = inl (r .0, List·Memᴰ·tail (r .1), r .2)
+      go (inr e) (inr n) = inr (listed-skip x xs k e ∙ n)
+
+  -- what holds of each value, and of none, holds of what is listed
+  pub listed-holds : (P : W → Type 0) → P none → (xs : List X) → Each (λ x. P (value x)) xs → (k : K) → P (listed xs k)
+  listed-holds P z [] m k = z
+  listed-holds P z (x ∷ xs) m k = go (E .same (key x) k) (listed-holds P z xs (m .1) k)
+    where
+      go : (c : Bool) → P (listed xs k) → P (cond c (value x) (listed xs k))
+      go true h = m .0
+      go false h = h
+
+  -- the sum for a key is what is listed for it
   pub sum-listed : (S : Semiring) (m : W → S .Carrier) → m none ≡ S .zero → (i k : K) (xs : List X) → Rising i xs
-      → sum S xs (λ x. only S (E .same (key x) k) (m (value x))) ≡ m (listed xs k)
+      → keySum S E xs key (λ x. m (value x)) k ≡ m (listed xs k)
   sum-listed S m z i k [] r = sym z
   sum-listed S m z i k (x ∷ xs) r = go (equal-or-not E (key x) k) (λ j. sum-listed S m z (key x) j xs (r .1))
     where
@@ -53,6 +100,16 @@ module _ {X K W : Type 0} (E : Equality K) (O : Order K) (key : X → K) (value 
           ∙ S .plus-zero (m (value x)) ∙ sym (ap m (listed-first x xs)))
       go (inr e) ih = ap (λ (c : Bool). S .plus (only S c (m (value x))) (sum S xs (λ y. only S (E .same (key y) k) (m (value y))))) e
           ∙ zero-plus S _ ∙ ih k ∙ sym (ap m (listed-skip x xs k e))
+
+  -- lists that list the same for the keys of their entries list the same for each key
+  pub listings-met : (xs ys : List X) → ((x : X) → List·Memᴰ x xs → listed xs (key x) ≡ listed ys (key x)) → ((y : X) → List·Memᴰ y ys → listed xs (key y) ≡ listed ys (key y))
+      → (k : K) → listed xs k ≡ listed ys k
+  listings-met xs ys hx hy k = go (listed-met k xs) (listed-met k ys)
+    where
+      go : ((x : X) × List·Memᴰ x xs × (key x ≡ k)) ⊎ (listed xs k ≡ none) → ((y : X) × List·Memᴰ y ys × (key y ≡ k)) ⊎ (listed ys k ≡ none) → listed xs k ≡ listed ys k
+      go (inl r) s = subst (λ (j : K). listed xs j ≡ listed ys j) (r .2) (hx (r .0) (r .1))
+      go (inr r) (inl s) = subst (λ (j : K). listed xs j ≡ listed ys j) (s .2) (hy (s .0) (s .1))
+      go (inr r) (inr s) = r ∙ sym s
 
   -- Two such lists without zeros that list the same for each key are equal.
   module _ (decided : (x y : X) → key x ≡ key y → value x ≡ value y → x ≡ y) where

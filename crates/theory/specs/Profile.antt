@@ -1,16 +1,16 @@
 -- The profile of a state: its summed weights, keyed by numbers that stay and by the blocks of states. Both directions compare profiles.
-use mathlib.Core.Path.{_≡_, refl, sym, ap, ap₂, _∙_, subst}
+use mathlib.Core.Path.{_≡_, refl, sym, ap, _∙_, subst}
 use mathlib.Core.Logic.{_⊎_, inl, inr, _≢_}
 use mathlib.Core.Bool.{Bool, false}
-use mathlib.Core.List.{List, [], _∷_, map}
+use mathlib.Core.List.{List, [], _∷_, map, map-map}
 use Prim.Native.Nat.{ℕ, _<_}
 use lib.Dec.{eqb}
 use Rattle.model.specs.Table.{Each}
-use Rattle.theory.specs.Each.{each-implies}
-use Rattle.theory.specs.Equality.{Equality, numbers, lists, pairs, equal-or-not, equal-same, false-differ, test-iff}
+use Rattle.theory.specs.Each.{each-implies, map-each}
+use Rattle.theory.specs.Equality.{Equality, numbers, lists, pairs, equal-or-not, false-differ}
 use Rattle.theory.specs.Semiring.{Semiring}
-use Rattle.theory.specs.Sum.{only, sum, sum-same, sum-each, sum-zero, only-zero, times-only-one}
-use Rattle.theory.specs.Grouping.{sums-by-key}
+use Rattle.theory.specs.Sum.{only, sum, sum-each, sum-zero, only-zero}
+use Rattle.theory.specs.Grouping.{keySum, keySums-through, keySum-packed}
 use Rattle.theory.specs.Blocks.{Refines, member, member-shares}
 use Rattle.theory.specs.Bisimulation.{Agreement}
 
@@ -31,18 +31,9 @@ keys = pairs lists lists
 abbrev pub keyOf : {W : Type 0} → (ℕ → ℕ) → Use W → Key
 keyOf b u = (u .fixed, map b (u .through))
 
-map-map : (f g : ℕ → ℕ) (qs : List ℕ) → map f (map g qs) ≡ map (λ q. f (g q)) qs
-map-map f g [] = refl
-map-map f g (q ∷ qs) = ap (_∷_ (f (g q))) (map-map f g qs)
-
-map-each : (P : ℕ → Type 0) (f g : ℕ → ℕ) → ((q : ℕ) → P q → f q ≡ g q) → (qs : List ℕ) → Each P qs → map f qs ≡ map g qs
-map-each P f g h [] m = refl
-map-each P f g h (q ∷ qs) m = ap₂ _∷_ (h q (m .0)) (map-each P f g h qs (m .1))
-
 module _ (S : Semiring) where
-  open Semiring S using (Carrier, zero as 𝟘, one as 𝟙, times as _⊗_)
+  open Semiring S using (Carrier, zero as 𝟘)
 
-  infixl 7 _⊗_
   -- the weight of a use of p; zero for a use of any other state
   abbrev pub counted : ℕ → Use Carrier → Carrier
   counted p u = only S (eqb (u .state) p) (u .weight)
@@ -107,10 +98,7 @@ module _ (S : Semiring) where
       packedSum j p = sum S uses (λ u. only S (E .same (pack (keyOf b u)) j) (counted p u))
 
       pub profile-packed : (p q : ℕ) → SameProfile b p q → (j : K) → packedSum j p ≡ packedSum j q
-      profile-packed p q h j = sym (as-product p) ∙ sums-by-key S keys uses (keyOf b) (counted p) uses (keyOf b) (counted q) h (λ k. only S (E .same (pack k) j) 𝟙) ∙ as-product q
-        where
-          as-product : (r : ℕ) → sum S uses (λ u. counted r u ⊗ only S (E .same (pack (keyOf b u)) j) 𝟙) ≡ packedSum j r
-          as-product r = sum-same S uses _ _ (λ u. times-only-one S (E .same (pack (keyOf b u)) j) (counted r u))
+      profile-packed p q h = keySums-through S keys E pack uses (keyOf b) (counted p) uses (keyOf b) (counted q) h
 
       pub packed-profile : Each (λ u. Each (λ v. pack (keyOf b v) ≡ pack (keyOf b u) → keyOf b v ≡ keyOf b u) uses) uses
           → (p q : ℕ) → ((j : K) → packedSum j p ≡ packedSum j q) → SameProfile b p q
@@ -118,10 +106,7 @@ module _ (S : Semiring) where
           (λ u tells _. sym (at u tells p) ∙ h (pack (keyOf b u)) ∙ at u tells q) uses apart)
         where
           at : (u : Use Carrier) → Each (λ v. pack (keyOf b v) ≡ pack (keyOf b u) → keyOf b v ≡ keyOf b u) uses → (r : ℕ) → packedSum (pack (keyOf b u)) r ≡ profile b (keyOf b u) r
-          at u tells r = sum-each S (λ v. pack (keyOf b v) ≡ pack (keyOf b u) → keyOf b v ≡ keyOf b u) uses tells _ _ (λ v f. ap (λ (c : Bool). only S c (counted r v))
-              (test-iff (E .same (pack (keyOf b v)) (pack (keyOf b u))) (keys .same (keyOf b v) (keyOf b u))
-              (λ t. equal-same keys (keyOf b v) (keyOf b u) (f (E .same-equal (pack (keyOf b v)) (pack (keyOf b u)) t)))
-              (λ t. equal-same E (pack (keyOf b v)) (pack (keyOf b u)) (ap pack (keys .same-equal (keyOf b v) (keyOf b u) t)))))
+          at u tells r = keySum-packed S keys E pack uses (keyOf b) (counted r) (keyOf b u) tells
 
     -- p depends on no state whose block differs in b and b′
     abbrev pub Independent : (ℕ → ℕ) → (ℕ → ℕ) → ℕ → Type 0
@@ -146,15 +131,16 @@ module _ (S : Semiring) where
       unfolding coarse
       coarse-block q l = let m = member-shares c n q l in r .keeps (member c n (c q)) q (m .0) l (m .1)
 
-      profile-coarse : (k : Key) (p : ℕ) → sum S uses (λ u. counted p u ⊗ only S (keys .same (keyOf c u .0, map coarse (keyOf c u .1)) k) 𝟙) ≡ profile b k p
-      profile-coarse k p = sum-each S (λ u. Each (λ r. r < n) (u .through)) uses known _ _ (λ u l.
-          times-only-one S (keys .same (u .fixed, map coarse (map c (u .through))) k) (counted p u)
-          ∙ ap (λ (Ds : List ℕ). only S (keys .same (u .fixed, Ds) k) (counted p u)) (map-map coarse c (u .through) ∙ map-each (λ r. r < n) (λ q. coarse (c q)) b coarse-block (u .through) l))
+      coarseKey : Key → Key
+      coarseKey k = (k .0, map coarse (k .1))
+
+      profile-coarse : (k : Key) (p : ℕ) → keySum S keys uses (λ u. coarseKey (keyOf c u)) (counted p) k ≡ profile b k p
+      unfolding coarseKey
+      profile-coarse k p = sum-each S (λ u. Each (λ r. r < n) (u .through)) uses known _ _ (λ u l. ap (λ (Ds : List ℕ). only S (keys .same (u .fixed, Ds) k) (counted p u))
+          (map-map coarse c (u .through) ∙ map-each (λ r. r < n) (λ q. coarse (c q)) b coarse-block (u .through) l))
 
       pub profile-merge : (p q : ℕ) → SameProfile c p q → SameProfile b p q
-      profile-merge p q h k = sym (profile-coarse k p)
-          ∙ sums-by-key S keys uses (keyOf c) (counted p) uses (keyOf c) (counted q) h (λ j. only S (keys .same (j .0, map coarse (j .1)) k) 𝟙)
-          ∙ profile-coarse k q
+      profile-merge p q h k = sym (profile-coarse k p) ∙ keySums-through S keys keys coarseKey uses (keyOf c) (counted p) uses (keyOf c) (counted q) h k ∙ profile-coarse k q
 
   -- What a state shows: a grade, equal for states that may be together at all, and its uses.
   module _ (n : ℕ) (grade : ℕ → Carrier) (uses : List (Use Carrier)) where

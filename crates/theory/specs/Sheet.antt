@@ -1,19 +1,15 @@
 -- The sheet that weighing fills: for each node, in prefix order, the weights of its subtree at the states 0 to n − 1.
-use mathlib.Core.Path.{_≡_, refl, sym, ap, ap₂, _∙_}
+use mathlib.Core.Path.{_≡_, sym, ap, ap₂, _∙_}
 use mathlib.Core.List.{List, [], _++_, map}
-use Prim.Native.Nat.{ℕ, zero, suc, _+_, _*_}
+use Prim.Native.Nat.{ℕ, _+_, _*_}
 use native.Mathlib.Nat.{add-mul, suc-mul, zero-mul, add-comm}
 use lib.IntN.{ℤ}
 use lib.ListN.{length, length-append, length-map}
 use Rattle.model.specs.Table.{Table}
 use Rattle.model.specs.Tree.{Tree, Forest, node, none, _then_, prefix, prefixes}
-use Rattle.theory.specs.Below.{upFrom, below}
+use Rattle.theory.specs.Below.{below, length-upFrom}
 use Rattle.theory.specs.Arithmetic.{valueOf, sheetNumber}
 use Rattle.theory.specs.Weight.{weightAt}
-
-pub length-upFrom : (i k : ℕ) → length (upFrom i k) ≡ k
-length-upFrom i zero = refl
-length-upFrom i (suc k) = ap suc (length-upFrom (suc i) k)
 
 module _ (a : ℕ) (X : Table) where
   -- the weights of a tree at each state

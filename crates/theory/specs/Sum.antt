@@ -1,7 +1,9 @@
 -- Finite sums in a commutative semiring.
 use mathlib.Core.Path.{_≡_, refl, sym, ap, ap₂, _∙_}
+use mathlib.Core.Logic.{_⊎_, inl, inr}
 use mathlib.Core.Bool.{Bool, true, false, not, _&&_}
-use mathlib.Core.List.{List, [], _∷_, _++_, map, flatMap}
+use mathlib.Core.List.{List, [], _∷_, _++_, map, flatMap, List·Memᴰ, List·Memᴰ·head, List·Memᴰ·tail}
+use lib.Dec.{T}
 use Rattle.model.specs.Table.{Each}
 use Rattle.theory.specs.Semiring.{Semiring}
 
@@ -134,6 +136,17 @@ module _ (S : Semiring) where
   pub only-sum {ℓ} : {A : Type ℓ} (c : Bool) (xs : List A) (f : A → Carrier) → only c (sum xs f) ≡ sum xs (λ x. only c (f x))
   only-sum true xs f = refl
   only-sum false xs f = sym (sum-zero xs)
+
+  -- a member passes the test, or the selected sum is zero
+  pub sum-met : {A : Type 0} (xs : List A) (f : A → Bool) (w : A → Carrier) → ((x : A) × List·Memᴰ x xs × T (f x)) ⊎ (sum xs (λ x. only (f x) (w x)) ≡ 𝟘)
+  sum-met [] f w = inr refl
+  sum-met {A} (x ∷ xs) f w = go (f x) (λ t. t) (sum-met xs f w)
+    where
+      go : (c : Bool) → (T c → T (f x)) → ((y : A) × List·Memᴰ y xs × T (f y)) ⊎ (sum xs (λ y. only (f y) (w y)) ≡ 𝟘)
+          → ((y : A) × List·Memᴰ y (x ∷ xs) × T (f y)) ⊎ (only c (w x) ⊕ sum xs (λ y. only (f y) (w y)) ≡ 𝟘)
+      go true h r = inl (x, List·Memᴰ·head refl, h tt)
+      go false h (inl r) = inl (r .0, List·Memᴰ·tail (r .1), r .2)
+      go false h (inr e) = inr (zero-plus _ ∙ e)
 
   -- a sum of products with selected sums, in the other order
   pub sum-exchange-only {ℓ κ} : {A : Type ℓ} {B : Type κ} (xs : List A) (ys : List B) (e : A → B → Bool) (w : A → Carrier) (h : B → Carrier)

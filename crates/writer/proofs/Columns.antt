@@ -1,10 +1,10 @@
 -- The invariant of the loops that write a column: so many of its numbers are put.
-use Prim.Native.Nat.{ℕ, zero, suc, _+_, _≤_, _<_}
-use mathlib.Core.Path.{_≡_, refl, sym, ap, _∙_, subst}
+use Prim.Native.Nat.{ℕ, _+_, _≤_, _<_}
+use mathlib.Core.Path.{_≡_, subst}
 use mathlib.Core.List.{List, [], _∷_, _++_}
 use native.Mathlib.Omega.{arith}
 use native.Mathlib.Numerals.{add-one}
-use lib.ListN.{length, take, drop, getD, length-take, length-drop, drop-of-length-le}
+use lib.ListN.{length, take, drop, getD, length-drop, drop-of-length-le}
 use lib.Seq.{drop-cons, getD-take, getD-drop, length-take-le}
 use Rattle.numbers.specs.Written.{written, writtenAll}
 use Rattle.writer.specs.Put.{Put}
@@ -31,7 +31,7 @@ module _ (column : List ℕ) (from count : ℕ) (before : List ℕ) (at : ℕ) w
       opened =
           let long = part-long in
           let first : drop i (part column from count) ≡ x ∷ drop (i + 1) (part column from count) =
-              rw (add-one, drop-cons (part column from count) i 0 (omega arith), getD-take count (drop from column) i 0 more, getD-drop from column i 0, is) in
+          rw (add-one, drop-cons (part column from count) i 0 (omega arith), getD-take count (drop from column) i 0 more, getD-drop from column i 0, is) in
           subst (λ (l : List ℕ). Putting before at (writtenAll (part column from count)) room place (writtenAll l)) first (so-far .putting)
 
       pub columned-fits : at + length (writtenAll (part column from count)) ≤ length before → place + length (written x) ≤ length room
@@ -41,8 +41,8 @@ module _ (column : List ℕ) (from count : ℕ) (before : List ℕ) (at : ℕ) w
       pub columned-goes-on : (after : List ℕ) (next : ℕ) → Put room place (written x) after next → Columned column from count before at after next (i + 1)
       columned-goes-on after next p =
           record {
-              some = omega arith;
-              putting = putting-goes-on before at (writtenAll (part column from count)) room place (written x) (writtenAll (drop (i + 1) (part column from count))) after next opened p
+            some = omega arith;
+            putting = putting-goes-on before at (writtenAll (part column from count)) room place (written x) (writtenAll (drop (i + 1) (part column from count))) after next opened p;
           }
 
     pub columned-ends : count ≤ i → Put before at (writtenAll (part column from count)) room place

@@ -1,13 +1,12 @@
 -- What a writable record says of its numbers.
-use Prim.Native.Nat.{ℕ, zero, suc, _+_, _*_, _≤_, _<_}
-use mathlib.Core.Path.{_≡_, refl, sym, ap, _∙_, subst}
-use mathlib.Core.List.{List, [], _∷_}
+use Prim.Native.Nat.{ℕ, zero, suc, _+_, _≤_, _<_}
+use mathlib.Core.Path.{_≡_, refl, ap, subst}
 use native.Mathlib.Omega.{arith}
 use native.Mathlib.Nat.{zero-add}
 use lib.ListN.{length, getD, take}
 use lib.Seq.{getD-take}
-use Rattle.model.specs.Table.{Table, Transition, Each, ProperTransition}
-use Rattle.tables.specs.Record.{Columns, columns, rowAt, rowsFrom, tableOf}
+use Rattle.model.specs.Table.{Transition, Each, ProperTransition}
+use Rattle.tables.specs.Record.{Columns, columns, rowAt, rowsFrom}
 use Rattle.tables.specs.Steps.{Long}
 use Rattle.tables.specs.declared.TableRecord.{TableRecord}
 use Rattle.roundtrip.specs.Members.{each-at}
@@ -43,9 +42,9 @@ module _ (r : TableRecord) (w : Writable r) where
   pub row-inside : Long (columnsOf r) → (j : ℕ) → j < r .count → RowInside (columnsOf r) j
   row-inside long j h =
       let proper : ProperTransition (take (r .symbols) (r .ranks)) (r .states) (rowAt (columnsOf r) (0 + j)) =
-          row-of (ProperTransition (take (r .symbols) (r .ranks)) (r .states)) (columnsOf r) 0 (r .count) (w .proper .transitions-proper) j h in
+      row-of (ProperTransition (take (r .symbols) (r .ranks)) (r .states)) (columnsOf r) 0 (r .count) (w .proper .transitions-proper) j h in
       let here : ProperTransition (take (r .symbols) (r .ranks)) (r .states) (rowAt (columnsOf r) j) =
-          subst (λ (i : ℕ). ProperTransition (take (r .symbols) (r .ranks)) (r .states) (rowAt (columnsOf r) i)) (zero-add j) proper in
+      subst (λ (i : ℕ). ProperTransition (take (r .symbols) (r .ranks)) (r .states) (rowAt (columnsOf r) i)) (zero-add j) proper in
       let known = here .symbol-known in
       let symbols = w .symbols in
       let few = few-symbols in
@@ -54,9 +53,9 @@ module _ (r : TableRecord) (w : Writable r) where
       let small : getD (take (r .symbols) (r .ranks)) σ 0 ≤ 4 = each-at (λ k. k ≤ 4) (take (r .symbols) (r .ranks)) 0 (omega arith) (w .proper .ranks-small) σ in
       let same : getD (take (r .symbols) (r .ranks)) σ 0 ≡ getD (r .ranks) σ 0 = getD-take (r .symbols) (r .ranks) σ 0 (omega arith) in
       record {
-          symbol = omega (arith, long .symbol);
-          known = omega (arith, long .ranks);
-          children = omega (arith, long .children);
-          target = omega (arith, long .target);
-          code = omega (arith, long .code)
+        symbol = omega (arith, long .symbol);
+        known = omega (arith, long .ranks);
+        children = omega (arith, long .children);
+        target = omega (arith, long .target);
+        code = omega (arith, long .code);
       }

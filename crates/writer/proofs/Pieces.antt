@@ -1,11 +1,11 @@
 -- The written form of a transition, and of a table, in the pieces in which it is put.
-use Prim.Native.Nat.{ℕ, zero, suc, _+_, _-_, _*_, _≤_, _<_}
+use Prim.Native.Nat.{ℕ, suc, _+_, _-_, _*_, _≤_, _<_}
 use native.Mathlib.Omega.{arith}
 use native.Mathlib.Numerals.{add-one}
 use mathlib.Core.Path.{_≡_, refl, sym, ap, _∙_}
 use mathlib.Core.List.{List, [], _∷_, _++_, append-assoc}
 use lib.ListN.{length, take, drop, getD}
-use Rattle.model.specs.Table.{Table, Transition}
+use Rattle.model.specs.Table.{Table}
 use Rattle.numbers.specs.Written.{written, writtenAll}
 use Rattle.format.specs.Written.{transitionNumbers, transitionsNumbers, bytesOf}
 use Rattle.tables.specs.Record.{Columns, rowAt, rowsFrom}
@@ -33,10 +33,13 @@ rows-none c j = refl
 pub table-pieces : (X : Table)
     → bytesOf X
     ≡ written (X .arithmetic) ++ (written (X .states) ++ (written (length (X .ranks)) ++ (writtenAll (X .ranks) ++ (writtenAll (X .finals)
-        ++ (written (length (X .transitions)) ++ (writtenAll (transitionsNumbers (X .transitions)) ++ []))))))
+    ++ (written (length (X .transitions)) ++ (writtenAll (transitionsNumbers (X .transitions)) ++ []))))))
 table-pieces X =
-    rw (all-append (X .ranks) (X .finals ++ (length (X .transitions) ∷ transitionsNumbers (X .transitions))), all-append (X .finals) (length (X .transitions) ∷ transitionsNumbers (X .transitions)),
-        mathlib.Core.List.append-nil)
+    rw (
+      all-append (X .ranks) (X .finals ++ (length (X .transitions) ∷ transitionsNumbers (X .transitions))),
+      all-append (X .finals) (length (X .transitions) ∷ transitionsNumbers (X .transitions)),
+      mathlib.Core.List.append-nil,
+    )
 
 -- the written form of rows j to count, from its first row on
 pub rows-open : (c : Columns) (j count : ℕ) → j < count

@@ -1,10 +1,10 @@
 -- The invariant of every writing loop: with the rest put from here on, the room is as the whole put from the start makes it.
-use Prim.Native.Nat.{ℕ, zero, suc, _+_, _≤_, _<_}
-use mathlib.Core.Path.{_≡_, refl, sym, ap, ap₂, _∙_}
+use Prim.Native.Nat.{ℕ, suc, _+_, _≤_}
+use mathlib.Core.Path.{_≡_, refl, ap, _∙_}
 use mathlib.Core.List.{List, [], _∷_, _++_}
 use native.Mathlib.Omega.{arith}
 use native.Mathlib.Nat.{add-zero}
-use lib.ListN.{length, set, length-append, length-set}
+use lib.ListN.{length, set, length-append}
 use lib.Seq.{sets, length-sets}
 use Rattle.writer.specs.Put.{Put}
 
@@ -32,9 +32,9 @@ module _ (before : List ℕ) (at : ℕ) (bytes : List ℕ) where
         let n = q .next-is in
         let l = length-append some rest in
         record {
-            same-room = rw (q .room-is, q .next-is, ← sets-append room place some rest) (p .same-room);
-            same-end = omega arith;
-            long = ap length (q .room-is) ∙ length-sets room place some ∙ p .long
+          same-room = rw (q .room-is, q .next-is, ← sets-append room place some rest) (p .same-room);
+          same-end = omega arith;
+          long = ap length (q .room-is) ∙ length-sets room place some ∙ p .long;
         }
 
     -- what is left fits

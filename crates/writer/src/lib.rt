@@ -1,7 +1,6 @@
 // Writing: a number, and a table record, in the one written form.
 
 use tables::TableRecord;
-
 ghost use mathlib.Core.Path.{_≡_};
 ghost use Prim.Native.Nat.{ℕ, _+_, _*_, _≤_, _<_, _^_};
 ghost use lib.ListN.{length, getD, take, drop};
@@ -62,7 +61,16 @@ fn put_finals(finals: &[u32], states: usize, room: &mut [u8], at: usize) -> usiz
 }
 
 // Transition j: symbol, children, target, code.
-fn put_transition<'a>(j: usize, ranks: &'a [u8], symbol: &'a [u8], children: &'a [u8], target: &'a [u8], code: &'a [u32], room: &mut [u8], at: usize) -> usize
+fn put_transition<'a>(
+    j: usize,
+    ranks: &'a [u8],
+    symbol: &'a [u8],
+    children: &'a [u8],
+    target: &'a [u8],
+    code: &'a [u32],
+    room: &mut [u8],
+    at: usize,
+) -> usize
     requires { ⌜ RowInside (columns (now ranks) (now symbol) (now children) (now target) (now code)) j × (at + length (writtenAll (transitionNumbers (rowAt (columns (now ranks) (now symbol) (now children) (now target) (now code)) j))) ≤ length (now room)) ⌝ }
     ensures { λ r. ⌜ Put (now (room .entry)) at (writtenAll (transitionNumbers (rowAt (columns (now (ranks .entry)) (now (symbol .entry)) (now (children .entry)) (now (target .entry)) (now (code .entry))) j))) (now (room .exit)) r ⌝ }
 {
@@ -75,7 +83,16 @@ fn put_transition<'a>(j: usize, ranks: &'a [u8], symbol: &'a [u8], children: &'a
 }
 
 // The transitions.
-fn put_transitions<'a>(count: usize, ranks: &'a [u8], symbol: &'a [u8], children: &'a [u8], target: &'a [u8], code: &'a [u32], room: &mut [u8], at: usize) -> usize
+fn put_transitions<'a>(
+    count: usize,
+    ranks: &'a [u8],
+    symbol: &'a [u8],
+    children: &'a [u8],
+    target: &'a [u8],
+    code: &'a [u32],
+    room: &mut [u8],
+    at: usize,
+) -> usize
     requires { ⌜ ((j : ℕ) → j < count → RowInside (columns (now ranks) (now symbol) (now children) (now target) (now code)) j) × (at + length (writtenAll (transitionsNumbers (rowsFrom (columns (now ranks) (now symbol) (now children) (now target) (now code)) 0 count))) ≤ length (now room)) ⌝ }
     ensures { λ r. ⌜ Put (now (room .entry)) at (writtenAll (transitionsNumbers (rowsFrom (columns (now (ranks .entry)) (now (symbol .entry)) (now (children .entry)) (now (target .entry)) (now (code .entry))) 0 count))) (now (room .exit)) r ⌝ }
 {
@@ -102,5 +119,14 @@ pub fn write(table: TableRecord, room: &mut [u8]) -> usize
     place = put_column(&table.ranks, 0, symbols, room, place);
     place = put_finals(&table.finals, states, room, place);
     place = put_number(room, place, count as u32);
-    put_transitions(count, &table.ranks, &table.symbol, &table.children, &table.target, &table.code, room, place)
+    put_transitions(
+        count,
+        &table.ranks,
+        &table.symbol,
+        &table.children,
+        &table.target,
+        &table.code,
+        room,
+        place,
+    )
 }

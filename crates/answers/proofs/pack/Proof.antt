@@ -6,36 +6,25 @@ use Prim.Native.Nat.{_<_, _^_}
 use Rattle.answers.specs.Numbers.{code-small, answerFigure}
 use Rattle.answers.proofs.pack.Statement.{statement}
 use Rattle.answers.proofs.pack.Tie as tie
-use Rattle.answers.proofs.pack.Reads as reads
-use Rattle.answers.proofs.pack.Lts as lts
-use Rattle.answers.proofs.code.Reads as code-reads
-use Rattle.answers.proofs.figure.Reads as figure-reads
 
--- src/lib.rt:91:22
 enum-known-answer : tie.Need-enum-known-answer
 enum-known-answer c = search needs
 
--- src/lib.rt:92:25
 enum-known-answer-2 : tie.Need-enum-known-answer-2
 enum-known-answer-2 c = search needs
 
--- src/lib.rt:92:38
 code-requires : tie.Need-code-requires
 code-requires c κs = search needs
 
--- src/lib.rt:92:38
 cast-result : tie.Need-cast-result
 cast-result c = search needs
 
--- src/lib.rt:92:37
 mul-result : tie.Need-mul-result
 mul-result c = search needs
 
--- src/lib.rt:92:76
 figure-requires : tie.Need-figure-requires
 figure-requires c κs = search needs
 
--- src/lib.rt:92:37
 add-result : tie.Need-add-result
 add-result c =
     let h : answerFigure (c .before .before .before .before .before .args .answer) < 2 ^ 32 = c .before .before .before .before .before .pre in
@@ -43,11 +32,9 @@ add-result c =
     let small = rw told at h in
     omega (arith, code-small (c .before .before .before .answer2 .given .0 .0), small, c .before .code .ensures, c .figure .ensures)
 
--- src/lib.rt:86:1
 returns : tie.Need-returns
 returns c = rw (c .before .answer .given .1) (omega arith)
 
--- src/lib.rt:86:1
 returns-2 : tie.Need-returns-2
 returns-2 c = rw (c .before .code .ensures, c .figure .ensures, c .before .before .before .answer2 .given .1)
 

@@ -4,15 +4,10 @@ use Rattle.calls.proofs.Readings.{reading-checks}
 use borrow.Author.Needs.{needs}
 use Rattle.calls.proofs.check.Statement.{statement}
 use Rattle.calls.proofs.check.Tie as tie
-use Rattle.calls.proofs.check.Reads as reads
-use Rattle.calls.proofs.check.Lts as lts
-use Rattle.tables.proofs.read.Reads as read-reads
 
--- src/lib.rt:15:9
 read-requires : tie.Need-read-requires
 read-requires c κs = search needs
 
--- src/lib.rt:12:1
 returns : tie.Need-returns
 returns c =
     reading-checks (c .before .before .args .table .now) (c .read .result) (c .read .ensures)

@@ -1,54 +1,40 @@
 -- `calls::compare` meets its contract: each return is one case of the pick.
 -- Assumes nothing.
-use mathlib.Core.Path.{_≡_, refl, sym, ap, ap₂, _∙_}
+use mathlib.Core.Path.{sym, ap₂, _∙_}
 use Rattle.calls.specs.Picking.{pickOf}
 use borrow.Author.Needs.{needs}
 use Rattle.calls.proofs.compare.Statement.{statement}
 use Rattle.calls.proofs.compare.Tie as tie
-use Rattle.calls.proofs.compare.Reads as reads
-use Rattle.calls.proofs.compare.Lts as lts
-use Rattle.calls.proofs.size_of.Reads as size-of-reads
-use Rattle.calls.proofs.smaller.Reads as smaller-reads
 
--- src/lib.rt:73:11
 size-of-requires : tie.Need-size-of-requires
 size-of-requires c κs = search needs
 
--- src/lib.rt:74:25
 enum-known-a : tie.Need-enum-known-a
 enum-known-a c = search needs
 
--- src/lib.rt:74:37
 size-of-requires-2 : tie.Need-size-of-requires-2
 size-of-requires-2 c κs = search needs
 
--- src/lib.rt:75:29
 enum-known-b : tie.Need-enum-known-b
 enum-known-b c = search needs
 
--- src/lib.rt:75:35
 smaller-requires : tie.Need-smaller-requires
 smaller-requires c κs = search needs
 
--- src/lib.rt:76:31
 enum-known-refusal : tie.Need-enum-known-refusal
 enum-known-refusal c = search needs
 
--- src/lib.rt:78:27
 enum-known-refusal-2 : tie.Need-enum-known-refusal-2
 enum-known-refusal-2 c = search needs
 
--- src/lib.rt:70:1
 returns : tie.Need-returns
 returns c =
     c .smaller .ensures ∙ ap₂ pickOf (sym (c .before .before .before .before .before .before .a .given .1) ∙ c .before .before .before .before .before .before .before .before .size-of .ensures) (sym (c .before .before .b .given .1) ∙ c .before .before .before .before .size-of2 .ensures)
 
--- src/lib.rt:70:1
 returns-2 : tie.Need-returns-2
 returns-2 c =
     ap₂ pickOf (sym (c .before .before .before .before .before .a .given .1) ∙ c .before .before .before .before .before .before .before .size-of .ensures) (sym (c .before .refusal .given .1) ∙ c .before .before .before .size-of2 .ensures)
 
--- src/lib.rt:70:1
 returns-3 : tie.Need-returns-3
 returns-3 c =
     rw (sym (c .before .before .before .size-of .ensures) ∙ c .before .refusal2 .given .1)

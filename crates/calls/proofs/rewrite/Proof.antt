@@ -5,47 +5,35 @@ use Rattle.calls.proofs.Readings.{Taken, reading-taken, reading-refused
 use borrow.Author.Needs.{needs}
 use Rattle.calls.proofs.rewrite.Statement.{statement}
 use Rattle.calls.proofs.rewrite.Tie as tie
-use Rattle.calls.proofs.rewrite.Reads as reads
-use Rattle.calls.proofs.rewrite.Lts as lts
-use Rattle.tables.proofs.read.Reads as read-reads
-use Rattle.writer.proofs.write.Reads as write-reads
 
 -- the table that was taken
 taken : (c : tie.After-enum-told) → Taken (tableRead (c .before .before .before .before .before .args .table .now)) (c .enum-told .given .0 .0) (c .before .before .read .result .table)
 taken c = reading-taken _ (c .before .before .read .result) _ (c .before .before .read .ensures) (c .enum-told .given .1)
 
--- src/lib.rt:24:9
 read-requires : tie.Need-read-requires
 read-requires c κs = search needs
 
--- src/lib.rt:29:17
 enum-told : tie.Need-enum-told
 enum-told c = search needs
 
--- src/lib.rt:31:17
 returns : tie.Need-returns
 returns c =
     rewrites-short (c .before .before .before .before .before .before .args .table .now) (λ i. c .before .before .before .before .before .shared-slice-known .given i .fits) _ (c .before .before .before .read .result .table) (taken (c .before)) _ (c .if1 .taken)
 
--- src/lib.rt:34:26
 write-requires : tie.Need-write-requires
 write-requires c κs =
     (taken-writable (c .before .before .before .before .before .before .before .before .args .table .now) (λ i. c .before .before .before .before .before .before .before .shared-slice-known .given i .fits) _ (c .before .before .before .before .before .read .result .table) (taken (c .before .before .before)), rw (written-is (c .before .before .before .before .before .before .before .before .args .table .now) (λ i. c .before .before .before .before .before .before .before .shared-slice-known .given i .fits) _ (c .before .before .before .before .before .read .result .table) (taken (c .before .before .before))) (c .before .before .if1 .left))
 
--- src/lib.rt:36:25
 enum-known-answer : tie.Need-enum-known-answer
 enum-known-answer c = search needs
 
--- src/lib.rt:21:1
 same-length : tie.Need-same-length
 same-length c = search needs
 
--- src/lib.rt:21:1
 returns-2 : tie.Need-returns-2
 returns-2 c =
     rewrites-done (c .before .before .before .before .before .before .before .before .before .before .before .args .table .now) (λ i. c .before .before .before .before .before .before .before .before .before .before .shared-slice-known .given i .fits) _ (c .before .before .before .before .before .before .before .before .read .result .table) (taken (c .before .before .before .before .before .before)) _ _ _ (c .before .before .before .before .before .if1 .left) (c .before .before .write .ensures)
 
--- src/lib.rt:21:1
 returns-3 : tie.Need-returns-3
 returns-3 c =
     rewrites-refused _ _ _ (reading-refused _ (c .before .before .before .read .result) _ (c .before .before .before .read .ensures) (c .before .answer .given .1))

@@ -1,7 +1,7 @@
 -- `calls::size_of` meets its contract: the reader's record is the table that was read.
 -- Assumes nothing.
 use Prim.Native.Nat.{ℕ}
-use mathlib.Core.Path.{_≡_, refl, sym, ap, ap₂, _∙_}
+use mathlib.Core.Path.{sym, ap, ap₂, _∙_}
 use Rattle.format.specs.Read.{tableRead}
 use Rattle.calls.specs.declared.SizeRead.the-variants as size
 use Rattle.calls.specs.Picking.{sizeOf}
@@ -9,23 +9,16 @@ use Rattle.calls.proofs.Readings.{reading-taken, reading-refused, taken
 use borrow.Author.Needs.{needs}
 use Rattle.calls.proofs.size_of.Statement.{statement}
 use Rattle.calls.proofs.size_of.Tie as tie
-use Rattle.calls.proofs.size_of.Reads as reads
-use Rattle.calls.proofs.size_of.Lts as lts
-use Rattle.tables.proofs.read.Reads as read-reads
 
--- src/lib.rt:54:9
 read-requires : tie.Need-read-requires
 read-requires c κs = search needs
 
--- src/lib.rt:57:22
 enum-known-answer : tie.Need-enum-known-answer
 enum-known-answer c = search needs
 
--- src/lib.rt:58:25
 enum-known-answer-2 : tie.Need-enum-known-answer-2
 enum-known-answer-2 c = search needs
 
--- src/lib.rt:51:1
 returns : tie.Need-returns
 returns c =
     let a = c .before .before .before .before .before .args in
@@ -34,7 +27,6 @@ returns c =
     let n = taken-count (a .table .now) (λ i. c .before .before .before .before .shared-slice-known .given i .fits) _ (r .result .table) t in
     ap₂ (λ (x y : ℕ). size.Taken (record { states = x; transitions = y })) (t .states) n ∙ sym (ap sizeOf (t .seen))
 
--- src/lib.rt:51:1
 returns-2 : tie.Need-returns-2
 returns-2 c =
     let r = c .before .before .before .read in

@@ -1,28 +1,21 @@
 -- `calls::smaller` meets its contract: each return is one case of the order.
 -- Assumes nothing.
 use borrow.Author.Tests.{eq-eqb, ne-eqb, lt-ltb, le-ltb}
-use borrow.Author.Needs.{needs}
 use Rattle.calls.proofs.smaller.Statement.{statement}
 use Rattle.calls.proofs.smaller.Tie as tie
-use Rattle.calls.proofs.smaller.Reads as reads
-use Rattle.calls.proofs.smaller.Lts as lts
 
--- src/lib.rt:88:13
 returns : tie.Need-returns
 returns c =
     rw (eq-eqb _ _ (c .before .before .before .if1 .taken), lt-ltb _ _ (c .if2 .taken))
 
--- src/lib.rt:90:9
 returns-2 : tie.Need-returns-2
 returns-2 c =
     rw (eq-eqb _ _ (c .before .before .before .if1 .taken), le-ltb _ _ (c .if2 .left))
 
--- src/lib.rt:93:9
 returns-3 : tie.Need-returns-3
 returns-3 c =
     rw (ne-eqb _ _ (c .before .before .before .if1 .left), lt-ltb _ _ (c .if3 .taken))
 
--- src/lib.rt:83:1
 returns-4 : tie.Need-returns-4
 returns-4 c =
     rw (ne-eqb _ _ (c .before .before .before .if1 .left), le-ltb _ _ (c .if3 .left))

@@ -1,30 +1,22 @@
 -- `peristhox::peristhox_rewrite` meets its contract: the call's answer, packed.
 -- Assumes nothing.
-use mathlib.Core.Path.{_≡_, ap, _∙_}
+use mathlib.Core.Path.{ap, _∙_}
 use Rattle.answers.specs.Numbers.{packed}
 use Rattle.peristhox.proofs.Figures.{rewrite-fits}
 use borrow.Author.Needs.{needs}
 use Rattle.peristhox.proofs.peristhox_rewrite.Statement.{statement}
 use Rattle.peristhox.proofs.peristhox_rewrite.Tie as tie
-use Rattle.peristhox.proofs.peristhox_rewrite.Reads as reads
-use Rattle.peristhox.proofs.peristhox_rewrite.Lts as lts
-use Rattle.answers.proofs.pack.Reads as pack-reads
-use Rattle.calls.proofs.rewrite.Reads as rewrite-reads
 
--- src/lib.rt:22:19
 rewrite-requires : tie.Need-rewrite-requires
 rewrite-requires c κs = search needs
 
--- src/lib.rt:22:5
 pack-requires : tie.Need-pack-requires
 pack-requires c κs =
     rw (c .before .before .rewrite .ensures .answer-is) (rewrite-fits (c .before .before .before .before .before .before .args .table .now) (λ i. c .before .before .before .before .before .shared-slice-known .given i .fits) (c .before .before .before .before .before .before .args .room .now))
 
--- src/lib.rt:17:1
 same-length : tie.Need-same-length
 same-length c = search needs
 
--- src/lib.rt:17:1
 returns : tie.Need-returns
 returns c =
     (c .pack .ensures ∙ ap packed (c .before .before .before .rewrite .ensures .answer-is), c .before .before .before .rewrite .ensures .room-is)

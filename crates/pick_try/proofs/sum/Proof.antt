@@ -1,15 +1,10 @@
 -- `pick_try::sum` meets its contract: it is safe and ends.
 -- Assumes nothing.
 use Prim.Native.Nat.{_≤_, _<_, _-_, _^_}
-use native.Mathlib.Omega.{arith}
 use lib.ListN.{length}
 use borrow.Author.Needs.{needs}
 use Rattle.pick_try.proofs.sum.Statement.{statement}
 use Rattle.pick_try.proofs.sum.Tie as tie
-use Rattle.pick_try.proofs.sum.Reads as reads
-use Rattle.pick_try.proofs.sum.Lts as lts
-use Rattle.pick_try.proofs.wide.Reads as wide-reads
-use Rattle.std.proofs.num.wrapping_add_u32.Reads as wrapping-add-u32-reads
 
 abbrev Inv-loop : tie.InvT-loop
 Inv-loop piece total₀ i₀ total i = (i ≤ length piece) × (total < 2 ^ 32)
@@ -17,39 +12,30 @@ Inv-loop piece total₀ i₀ total i = (i ≤ length piece) × (total < 2 ^ 32)
 abbrev μ-loop : tie.MeasureT-loop
 μ-loop piece total₀ i₀ total i = length piece - i
 
--- src/main.rt:46:5
 loop-holds : tie.Need-loop-holds Inv-loop μ-loop
 loop-holds c = search needs
 
--- src/main.rt:47:56
 shared-slice-read-wide : tie.Need-shared-slice-read-wide Inv-loop μ-loop
 shared-slice-read-wide c = search needs
 
--- src/main.rt:47:51
 wide-requires : tie.Need-wide-requires Inv-loop μ-loop
 wide-requires c κs = search needs
 
--- src/main.rt:47:9
 wrapping-add-u32-requires : tie.Need-wrapping-add-u32-requires Inv-loop μ-loop
 wrapping-add-u32-requires c κs = search needs
 
--- src/main.rt:48:9
 add-i : tie.Need-add-i Inv-loop μ-loop
 add-i c = search needs
 
--- src/main.rt:46:5
 loop-less : tie.Need-loop-less Inv-loop μ-loop
 loop-less c = search needs
 
--- src/main.rt:46:5
 loop-again : tie.Need-loop-again Inv-loop μ-loop
 loop-again c = search needs
 
--- src/main.rt:50:5
 cast-result : tie.Need-cast-result Inv-loop μ-loop
 cast-result c = search needs
 
--- src/main.rt:43:1
 returns : tie.Need-returns Inv-loop μ-loop
 returns c = search needs
 

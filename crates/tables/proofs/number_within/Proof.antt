@@ -1,46 +1,35 @@
 -- `tables::number_within` meets its contract: what the number reader found, tested.
 -- Assumes nothing.
-use mathlib.Core.Path.{_≡_, refl, sym, ap, _∙_}
-use native.Mathlib.Omega.{arith}
-use borrow.Author.Tests.{lt-ltb, le-ltb, lt-leb, le-leb}
+use mathlib.Core.Path.{sym, _∙_}
+use borrow.Author.Tests.{lt-leb, le-leb}
 use borrow.Author.Needs.{needs}
 use Rattle.tables.proofs.number_within.Statement.{statement}
 use Rattle.tables.proofs.number_within.Tie as tie
-use Rattle.tables.proofs.number_within.Reads as reads
-use Rattle.tables.proofs.number_within.Lts as lts
-use Rattle.numbers.proofs.Cursor.number.Reads as number-reads
 
--- src/lib.rt:39:11
 number-requires : tie.Need-number-requires
 number-requires c κs = search needs
 
--- src/lib.rt:40:28
 enum-known-n : tie.Need-enum-known-n
 enum-known-n c = search needs
 
--- src/lib.rt:42:17
 returns : tie.Need-returns
 returns c =
     let g = c .before .before .n .given in
     rw (sym (c .before .before .before .before .number .ensures) ∙ g .1, lt-leb _ (g .0 .0) (c .if1 .taken))
 
--- src/lib.rt:45:17
 returns-2 : tie.Need-returns-2
 returns-2 c =
     let g = c .before .before .before .n .given in
     rw (sym (c .before .before .before .before .before .number .ensures) ∙ g .1, le-leb _ (g .0 .0) (c .before .if1 .left), lt-leb (g .0 .0) _ (c .if2 .taken))
 
--- src/lib.rt:49:29
 enum-known-refusal : tie.Need-enum-known-refusal
 enum-known-refusal c = search needs
 
--- src/lib.rt:35:1
 returns-3 : tie.Need-returns-3
 returns-3 c =
     let g = c .before .before .before .n .given in
     rw (sym (c .before .before .before .before .before .number .ensures) ∙ g .1, le-leb _ (g .0 .0) (c .before .if1 .left), le-leb (g .0 .0) _ (c .if2 .left))
 
--- src/lib.rt:35:1
 returns-4 : tie.Need-returns-4
 returns-4 c =
     rw (sym (c .before .before .before .number .ensures) ∙ c .before .refusal .given .1)

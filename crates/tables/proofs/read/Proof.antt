@@ -1,6 +1,6 @@
 -- `tables::read` meets its contract: the record is made of what the body's reader left in the arrays.
 -- Assumes nothing.
-use mathlib.Core.Path.{_≡_, refl, sym, ap, _∙_, subst}
+use mathlib.Core.Path.{refl, subst}
 use Prim.Native.Nat.{ℕ}
 use lib.ListN.{length-replicate}
 use borrow.Author.Needs.{needs}
@@ -8,53 +8,40 @@ use Rattle.tables.specs.Steps.{HeaderIs, BodyIs}
 use Rattle.tables.proofs.Blank.{blank-small, blank-long}
 use Rattle.tables.proofs.read.Statement.{statement}
 use Rattle.tables.proofs.read.Tie as tie
-use Rattle.tables.proofs.read.Reads as reads
-use Rattle.tables.proofs.read.Lts as lts
-use Rattle.tables.proofs.read_body.Reads as read-body-reads
-use Rattle.tables.proofs.read_header.Reads as read-header-reads
 
--- src/lib.rt:393:11
 read-header-requires : tie.Need-read-header-requires
 read-header-requires c κs =
     search needs
 
--- src/lib.rt:394:26
 enum-known-header : tie.Need-enum-known-header
 enum-known-header c =
     search needs
 
--- src/lib.rt:395:19
 read-body-requires : tie.Need-read-body-requires
 read-body-requires c κs =
     (subst (HeaderIs (c .before .before .before .before .before .before .before .before .before .before .before .args .table .now)) (c .before .before .before .before .before .before .before .header .given .1) (c .before .before .before .before .before .before .before .before .before .read-header .ensures), blank-small, length-replicate {A = ℕ} 256 0, blank-long)
 
--- src/lib.rt:396:33
 enum-known-count : tie.Need-enum-known-count
 enum-known-count c =
     search needs
 
--- src/lib.rt:411:35
 enum-known-refusal : tie.Need-enum-known-refusal
 enum-known-refusal c =
     search needs
 
--- src/lib.rt:417:29
 enum-known-refusal-2 : tie.Need-enum-known-refusal-2
 enum-known-refusal-2 c =
     search needs
 
--- src/lib.rt:384:1
 returns : tie.Need-returns
 returns c =
     let f = subst (BodyIs (c .before .before .before .before .before .before .before .before .before .before .before .before .before .before .before .args .table .now) _ _ _) (c .before .count .given .1) (c .before .before .before .read-body .ensures) in
     rw (f .table) (refl, record { table = refl; symbols = f .symbols })
 
--- src/lib.rt:384:1
 returns-2 : tie.Need-returns-2
 returns-2 c =
     rw (subst (BodyIs (c .before .before .before .before .before .before .before .before .before .before .before .before .before .before .before .args .table .now) _ _ _) (c .before .refusal .given .1) (c .before .before .before .read-body .ensures)) refl
 
--- src/lib.rt:384:1
 returns-3 : tie.Need-returns-3
 returns-3 c =
     rw (subst (HeaderIs (c .before .before .before .before .before .args .table .now)) (c .before .refusal2 .given .1) (c .before .before .before .read-header .ensures)) refl

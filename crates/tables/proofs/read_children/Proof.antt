@@ -1,6 +1,6 @@
 -- `tables::read_children` meets its contract. The invariant is `Filling`: so many children are in the array.
 -- Assumes nothing.
-use Prim.Native.Nat.{ℕ, _+_, _-_, _<_}
+use Prim.Native.Nat.{_+_, _-_}
 use mathlib.Core.Path.{_≡_, refl, sym, ap, _∙_}
 use native.Mathlib.Omega.{arith}
 use Rattle.format.specs.Read.{found, oneOf}
@@ -9,12 +9,9 @@ use Rattle.tables.proofs.Filling.{Filling, filling-starts, filling-goes
 use borrow.Author.Needs.{needs}
 use Rattle.tables.proofs.read_children.Statement.{statement}
 use Rattle.tables.proofs.read_children.Tie as tie
-use Rattle.tables.proofs.read_children.Reads as reads
-use Rattle.tables.proofs.read_children.Lts as lts
-use Rattle.tables.proofs.read_state.Reads as read-state-reads
 
 abbrev Inv-loop : tie.InvT-loop
-Inv-loop table states rank from children₀ next₀ i₀ children next i = 
+Inv-loop table states rank from children₀ next₀ i₀ children next i =
     Filling (oneOf table states) rank from (next₀ .at) children₀ children i (next .at)
 
 abbrev μ-loop : tie.MeasureT-loop
@@ -26,34 +23,27 @@ child-found : (c : tie.After-known-told Inv-loop μ-loop) →
     oneOf (a .table .now) (a .states) (c .before .before .before .before .before .loop .next .at) ≡ found (c .before .child .given .0 .0 .0) (c .before .child .given .0 .1 .0 .at)
 child-found c = sym (c .before .before .before .read-state .ensures) ∙ ap stateFound (c .before .child .given .1)
 
--- src/lib.rt:136:5
 loop-holds : tie.Need-loop-holds Inv-loop μ-loop
 loop-holds c =
     let a = c .before .args in
     filling-starts (oneOf (a .table .now) (a .states)) (a .rank) (a .from) (a .place .at) (a .children .now)
 
--- src/lib.rt:137:15
 read-state-requires : tie.Need-read-state-requires Inv-loop μ-loop
 read-state-requires c κs = search needs
 
--- src/lib.rt:138:32
 enum-known-child : tie.Need-enum-known-child Inv-loop μ-loop
 enum-known-child c = search needs
 
--- src/lib.rt:139:26
 add-children : tie.Need-add-children Inv-loop μ-loop
 add-children c = search needs
 
--- src/lib.rt:139:17
 element-write-children : tie.Need-element-write-children Inv-loop μ-loop
 element-write-children c =
     omega (arith, c .before .before .before .before .loop-test .taken, c .before .before .before .before .before .before .before .pre .1)
 
--- src/lib.rt:142:33
 enum-known-refusal : tie.Need-enum-known-refusal Inv-loop μ-loop
 enum-known-refusal c = search needs
 
--- src/lib.rt:143:17
 returns : tie.Need-returns Inv-loop μ-loop
 returns c =
     let a = c .before .before .before .before .before .before .before .args in
@@ -61,15 +51,12 @@ returns c =
     filling-refused (oneOf (a .table .now) (a .states)) (a .rank) (a .from) (a .place .at) (a .children .now) (l .children) (l .children) (l .i) (l .next .at) (c .before .refusal .given .0 .0)
     (l .inv) (c .before .before .before .before .loop-test .taken) (sym (c .before .before .before .read-state .ensures) ∙ ap stateFound (c .before .refusal .given .1))
 
--- src/lib.rt:146:9
 add-i : tie.Need-add-i Inv-loop μ-loop
 add-i c = search needs
 
--- src/lib.rt:136:5
 loop-less : tie.Need-loop-less Inv-loop μ-loop
 loop-less c = search needs
 
--- src/lib.rt:136:5
 loop-again : tie.Need-loop-again Inv-loop μ-loop
 loop-again c =
     let a = c .before .before .before .before .before .before .before .args in
@@ -77,7 +64,6 @@ loop-again c =
     filling-goes-on (oneOf (a .table .now) (a .states)) (a .rank) (a .from) (a .place .at) (a .children .now) (l .children) (l .i) (l .next .at) (a .from + l .i) _ _
     (l .inv) (c .before .before .before .before .loop-test .taken) (omega (arith, c .before .before .before .before .before .before .before .pre)) refl (child-found c)
 
--- src/lib.rt:130:1
 returns-2 : tie.Need-returns-2 Inv-loop μ-loop
 returns-2 c =
     let a = c .before .before .before .args in

@@ -1,18 +1,15 @@
 -- `tables::read_ranks` meets its contract. The invariant is `Filling`: so many ranks are in the array, all at most 4.
 -- Assumes nothing.
-use Prim.Native.Nat.{ℕ, _+_, _-_, _<_}
-use mathlib.Core.Path.{_≡_, refl, sym, ap, _∙_}
+use Prim.Native.Nat.{_-_}
+use mathlib.Core.Path.{_≡_, sym, ap, _∙_}
 use native.Mathlib.Omega.{arith}
-use Rattle.format.specs.Read.{Found, found, refused, asFound, any, within}
+use Rattle.format.specs.Read.{found, asFound, within}
 use Rattle.tables.proofs.Filling.{Filling, filling-starts, filling-goes-on, filling-ends, filling-refused}
 use Rattle.tables.specs.Steps.{Small}
 use Rattle.tables.proofs.Bounds.{within-bounds, at-most-set}
 use borrow.Author.Needs.{needs}
 use Rattle.tables.proofs.read_ranks.Statement.{statement}
 use Rattle.tables.proofs.read_ranks.Tie as tie
-use Rattle.tables.proofs.read_ranks.Reads as reads
-use Rattle.tables.proofs.read_ranks.Lts as lts
-use Rattle.tables.proofs.number_within.Reads as number-within-reads
 
 abbrev Inv-loop : tie.InvT-loop
 Inv-loop table symbols ranks₀ next₀ i₀ ranks next i =
@@ -26,60 +23,53 @@ rank-found : (c : tie.After-known-told Inv-loop μ-loop) →
     within (c .before .before .before .before .before .before .before .args .table .now) 0 4 (c .before .before .before .before .before .loop .next .at) ≡ found (c .before .rank .given .0 .0) (c .before .rank .given .0 .1 .0 .at)
 rank-found c = sym (c .before .before .before .number-within .ensures) ∙ ap asFound (c .before .rank .given .1)
 
--- src/lib.rt:92:5
 loop-holds : tie.Need-loop-holds Inv-loop μ-loop
 loop-holds c =
     let a = c .before .args in
     (filling-starts (within (a .table .now) 0 4) (a .symbols) 0 (a .place .at) (a .ranks .now), c .before .pre .2)
 
--- src/lib.rt:93:15
 number-within-requires : tie.Need-number-within-requires Inv-loop μ-loop
 number-within-requires c κs = search needs
 
--- src/lib.rt:94:32
 enum-known-rank : tie.Need-enum-known-rank Inv-loop μ-loop
 enum-known-rank c = search needs
 
--- src/lib.rt:95:28
 cast-ranks : tie.Need-cast-ranks Inv-loop μ-loop
 cast-ranks c =
     let small = within-bounds (c .before .before .before .before .before .before .before .args .table .now) (c .before .before .before .before .before .loop .next .at) 0 4 (rank-found c) in
     omega (arith, small .1)
 
--- src/lib.rt:95:17
 element-write-ranks : tie.Need-element-write-ranks Inv-loop μ-loop
 element-write-ranks c = search needs
 
--- src/lib.rt:98:33
 enum-known-refusal : tie.Need-enum-known-refusal Inv-loop μ-loop
 enum-known-refusal c = search needs
 
--- src/lib.rt:99:17
 returns : tie.Need-returns Inv-loop μ-loop
 returns c =
     let a = c .before .before .before .before .before .before .before .args in
-    let l = c .before .before .before .before .before .loop in
-    (filling-refused (within (a .table .now) 0 4) (a .symbols) 0 (a .place .at) (a .ranks .now) (l .ranks) (l .ranks) (l .i) (l .next .at) (c .before .refusal .given .0 .0)
-    (l .inv .0) (c .before .before .before .before .loop-test .taken) (sym (c .before .before .before .number-within .ensures) ∙ ap asFound (c .before .refusal .given .1)), l .inv .1)
+    let l = c .before .before .before .before .before .loop in (
+      filling-refused (within (a .table .now) 0 4) (a .symbols) 0 (a .place .at) (a .ranks .now) (l .ranks) (l .ranks) (l .i) (l .next .at) (c .before .refusal .given .0 .0)
+          (l .inv .0) (c .before .before .before .before .loop-test .taken) (sym (c .before .before .before .number-within .ensures) ∙ ap asFound (c .before .refusal .given .1)),
+      l .inv .1,
+    )
 
--- src/lib.rt:102:9
 add-i : tie.Need-add-i Inv-loop μ-loop
 add-i c = search needs
 
--- src/lib.rt:92:5
 loop-less : tie.Need-loop-less Inv-loop μ-loop
 loop-less c = search needs
 
--- src/lib.rt:92:5
 loop-again : tie.Need-loop-again Inv-loop μ-loop
 loop-again c =
     let a = c .before .before .before .before .before .before .before .args in
     let l = c .before .before .before .before .before .loop in
-    let small = within-bounds (a .table .now) (l .next .at) 0 4 (rank-found c) in
-    (filling-goes-on (within (a .table .now) 0 4) (a .symbols) 0 (a .place .at) (a .ranks .now) (l .ranks) (l .i) (l .next .at) (l .i) _ _
-    (l .inv .0) (c .before .before .before .before .loop-test .taken) (omega (arith, c .before .before .before .before .before .before .before .pre)) (omega arith) (rank-found c), λ j. at-most-set (l .ranks) (l .i) _ j 4 (l .inv .1 j) (small .1))
+    let small = within-bounds (a .table .now) (l .next .at) 0 4 (rank-found c) in (
+      filling-goes-on (within (a .table .now) 0 4) (a .symbols) 0 (a .place .at) (a .ranks .now) (l .ranks) (l .i) (l .next .at) (l .i) _ _
+          (l .inv .0) (c .before .before .before .before .loop-test .taken) (omega (arith, c .before .before .before .before .before .before .before .pre)) (omega arith) (rank-found c),
+      λ j. at-most-set (l .ranks) (l .i) _ j 4 (l .inv .1 j) (small .1),
+    )
 
--- src/lib.rt:86:1
 returns-2 : tie.Need-returns-2 Inv-loop μ-loop
 returns-2 c =
     let a = c .before .before .before .args in

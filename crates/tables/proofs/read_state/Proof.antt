@@ -1,41 +1,32 @@
 -- `tables::read_state` meets its contract: a number below the number of states, as a state.
 -- Assumes nothing.
-use mathlib.Core.Path.{_≡_, sym, ap, _∙_}
+use mathlib.Core.Path.{sym, ap, _∙_}
 use native.Mathlib.Omega.{arith}
-use Rattle.format.specs.Read.{found, asFound, oneOf}
+use Rattle.format.specs.Read.{asFound}
 use Rattle.tables.proofs.Bounds.{oneOf-below}
 use borrow.Author.Needs.{needs}
 use Rattle.tables.proofs.read_state.Statement.{statement}
 use Rattle.tables.proofs.read_state.Tie as tie
-use Rattle.tables.proofs.read_state.Reads as reads
-use Rattle.tables.proofs.read_state.Lts as lts
-use Rattle.tables.proofs.number_of.Reads as number-of-reads
 
--- src/lib.rt:83:11
 number-of-requires : tie.Need-number-of-requires
 number-of-requires c κs = search needs
 
--- src/lib.rt:84:28
 enum-known-n : tie.Need-enum-known-n
 enum-known-n c = search needs
 
--- src/lib.rt:84:62
 cast-t9 : tie.Need-cast-t9
 cast-t9 c =
     let a = c .before .before .before .before .before .args in
     let e = sym (c .before .before .before .number-of .ensures) ∙ ap asFound (c .before .n .given .1) in
     omega (arith, oneOf-below (a .table .now) (a .place .at) (a .states) e, c .before .before .before .before .before .pre)
 
--- src/lib.rt:85:29
 enum-known-refusal : tie.Need-enum-known-refusal
 enum-known-refusal c = search needs
 
--- src/lib.rt:79:1
 returns : tie.Need-returns
 returns c =
     sym (ap asFound (c .before .n .given .1)) ∙ c .before .before .before .number-of .ensures
 
--- src/lib.rt:79:1
 returns-2 : tie.Need-returns-2
 returns-2 c =
     sym (ap asFound (c .before .refusal .given .1)) ∙ c .before .before .before .number-of .ensures

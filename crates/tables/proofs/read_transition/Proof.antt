@@ -1,26 +1,17 @@
 -- `tables::read_transition` meets its contract: each return is one case of the definition of a transition.
 -- Assumes nothing.
-use Prim.Native.Nat.{ℕ, _+_, _*_, _≤_, _<_}
-use mathlib.Core.Path.{_≡_, refl, sym, ap, _∙_, subst}
-use mathlib.Core.List.{List}
+use Prim.Native.Nat.{_*_, _≤_, _<_}
+use mathlib.Core.Path.{_≡_, refl, sym, ap, _∙_}
 use native.Mathlib.Omega.{arith}
-use lib.ListN.{length, take, drop, getD, set}
+use lib.ListN.{length, getD}
 use lib.Seq.{getD-set-same}
-use Rattle.format.specs.Read.{Found, found, refused, asFound, oneOf, listed, many, transitionAt}
-use Rattle.tables.specs.Record.{columns, rowAt}
-use Rattle.tables.specs.Steps.{stateFound, RowRead}
+use Rattle.format.specs.Read.{found, asFound, oneOf, many}
+use Rattle.tables.specs.Steps.{stateFound}
 use Rattle.tables.proofs.Bounds.{oneOf-below}
 use Rattle.tables.proofs.Row.{Went, filled-next, filled-refused, many-length, no-symbol, no-children, no-target, no-code, transition-found, row-is, row-kept, row-long}
 use borrow.Author.Needs.{needs}
 use Rattle.tables.proofs.read_transition.Statement.{statement}
 use Rattle.tables.proofs.read_transition.Tie as tie
-use Rattle.tables.proofs.read_transition.Reads as reads
-use Rattle.tables.proofs.read_transition.Lts as lts
-use Rattle.tables.proofs.listed_code.Reads as listed-code-reads
-use Rattle.tables.proofs.number_of.Reads as number-of-reads
-use Rattle.tables.proofs.read_children.Reads as read-children-reads
-use Rattle.tables.proofs.read_state.Reads as read-state-reads
-use Rattle.tables.proofs.wide.Reads as wide-reads
 
 -- what has been found when the symbol is read
 symbol-found : (c : tie.After-known-told) →
@@ -49,90 +40,71 @@ children-went c =
     let a = c .before .before .before .before .before .before .before .before .before .before .before .before .args in
     filled-next _ (a .j * 4) (a .children .now) _ (c .before .before .before .read-children .result) _ (c .before .before .before .read-children .ensures) (c .before .behind .given .1)
 
--- src/lib.rt:215:11
 number-of-requires : tie.Need-number-of-requires
 number-of-requires c κs = search needs
 
--- src/lib.rt:216:28
 enum-known-n : tie.Need-enum-known-n
 enum-known-n c = search needs
 
--- src/lib.rt:217:25
 cast-symbol : tie.Need-cast-symbol
 cast-symbol c =
     let small = symbol-small c in omega arith
 
--- src/lib.rt:217:13
 element-write-symbol : tie.Need-element-write-symbol
 element-write-symbol c = search needs
 
--- src/lib.rt:218:31
 cast-wide : tie.Need-cast-wide
 cast-wide c = search needs
 
--- src/lib.rt:218:25
 element-copy-out-wide : tie.Need-element-copy-out-wide
 element-copy-out-wide c =
     symbol-small c
 
--- src/lib.rt:218:13
 wide-requires : tie.Need-wide-requires
 wide-requires c κs = search needs
 
--- src/lib.rt:221:29
 enum-known-refusal : tie.Need-enum-known-refusal
 enum-known-refusal c = search needs
 
--- src/lib.rt:222:13
 returns : tie.Need-returns
 returns c =
     let a = c .before .before .before .before .before .args in
     let few : a .symbols ≤ length (a .ranks .now) = omega (arith, c .before .before .before .before .before .pre .1, c .before .before .before .before .before .pre .4 .ranks) in
     rw (no-symbol (a .table .now) (a .ranks .now) (a .symbols) (a .states) (a .place .at) few _ (sym (c .before .before .before .number-of .ensures) ∙ ap asFound (c .before .refusal .given .1)))
 
--- src/lib.rt:225:52
 mul-read-children : tie.Need-mul-read-children
 mul-read-children c = search needs
 
--- src/lib.rt:225:11
 read-children-requires : tie.Need-read-children-requires
 read-children-requires c κs =
     let small = rank-small (c .before) in
     let j = c .before .before .before .before .before .before .before .before .pre .2 in
     (c .before .before .before .before .before .before .before .before .pre .0, omega arith, c .before .before .before .before .before .before .before .before .pre .4 .children)
 
--- src/lib.rt:226:20
 enum-known-behind : tie.Need-enum-known-behind
 enum-known-behind c = search needs
 
--- src/lib.rt:229:23
 enum-known-refusal-2 : tie.Need-enum-known-refusal-2
 enum-known-refusal-2 c = search needs
 
--- src/lib.rt:230:13
 returns-2 : tie.Need-returns-2
 returns-2 c =
     let a = c .before .before .before .before .before .before .before .before .before .before .before .before .args in
     let few : a .symbols ≤ length (a .ranks .now) = omega (arith, c .before .before .before .before .before .before .before .before .before .before .before .before .pre .1, c .before .before .before .before .before .before .before .before .before .before .before .before .pre .4 .ranks) in
     rw (no-children (a .table .now) (a .ranks .now) (a .symbols) (a .states) (a .place .at) few _ _ (c .before .before .before .before .before .wide .result) (symbol-found (c .before .before .before .before .before .before .before)) (c .before .before .before .before .before .wide .ensures .0) _ (filled-refused _ (a .j * 4) (a .children .now) _ (c .before .before .before .read-children .result) _ (c .before .before .before .read-children .ensures) (c .before .refusal2 .given .1)))
 
--- src/lib.rt:233:11
 read-state-requires : tie.Need-read-state-requires
 read-state-requires c κs = search needs
 
--- src/lib.rt:234:25
 enum-known-q : tie.Need-enum-known-q
 enum-known-q c = search needs
 
--- src/lib.rt:235:13
 element-write-target : tie.Need-element-write-target
 element-write-target c = search needs
 
--- src/lib.rt:238:28
 enum-known-refusal-3 : tie.Need-enum-known-refusal-3
 enum-known-refusal-3 c = search needs
 
--- src/lib.rt:239:13
 returns-3 : tie.Need-returns-3
 returns-3 c =
     let a = c .before .before .before .before .before .before .before .before .before .before .before .before .before .before .before .before .args in
@@ -140,29 +112,23 @@ returns-3 c =
     let went = children-went (c .before .before .before .before) in
     rw (no-target (a .table .now) (a .ranks .now) (a .symbols) (a .states) (a .place .at) few _ _ (c .before .before .before .before .before .before .before .before .before .wide .result) (symbol-found (c .before .before .before .before .before .before .before .before .before .before .before)) (c .before .before .before .before .before .before .before .before .before .wide .ensures .0) (went .numbers) _ (went .seen) _ (sym (c .before .before .before .read-state .ensures) ∙ ap stateFound (c .before .refusal3 .given .1)))
 
--- src/lib.rt:242:11
 listed-code-requires : tie.Need-listed-code-requires
 listed-code-requires c κs = search needs
 
--- src/lib.rt:243:28
 enum-known-n-2 : tie.Need-enum-known-n-2
 enum-known-n-2 c = search needs
 
--- src/lib.rt:244:13
 mul-code : tie.Need-mul-code
 mul-code c =
     let j = c .before .before .before .before .before .before .before .before .before .before .before .before .before .before .before .before .before .before .before .before .pre .2 in omega arith
 
--- src/lib.rt:244:13
 element-write-code : tie.Need-element-write-code
 element-write-code c =
     c .before .before .before .before .before .before .before .before .before .before .before .before .before .before .before .before .before .before .before .before .pre .2
 
--- src/lib.rt:247:29
 enum-known-refusal-4 : tie.Need-enum-known-refusal-4
 enum-known-refusal-4 c = search needs
 
--- src/lib.rt:248:13
 returns-4 : tie.Need-returns-4
 returns-4 c =
     let a = c .before .before .before .before .before .before .before .before .before .before .before .before .before .before .before .before .before .before .before .before .args in
@@ -170,7 +136,6 @@ returns-4 c =
     let went = children-went (c .before .before .before .before .before .before .before .before) in
     rw (no-code (a .table .now) (a .ranks .now) (a .symbols) (a .states) (a .place .at) few _ _ (c .before .before .before .before .before .before .before .before .before .before .before .before .before .wide .result) (symbol-found (c .before .before .before .before .before .before .before .before .before .before .before .before .before .before .before)) (c .before .before .before .before .before .before .before .before .before .before .before .before .before .wide .ensures .0) (went .numbers) _ (went .seen) _ _ (sym (c .before .before .before .before .before .before .before .read-state .ensures) ∙ ap stateFound (c .before .before .before .before .before .q .given .1)) _ (sym (c .before .before .before .listed-code .ensures) ∙ ap asFound (c .before .refusal4 .given .1)))
 
--- src/lib.rt:207:1
 returns-5 : tie.Need-returns-5
 returns-5 c =
     let a = c .before .before .before .before .before .before .before .before .before .before .before .before .before .before .before .before .before .before .before .before .args in
@@ -179,14 +144,15 @@ returns-5 c =
     let j = c .before .before .before .before .before .before .before .before .before .before .before .before .before .before .before .before .before .before .before .before .pre .2 in
     let long = c .before .before .before .before .before .before .before .before .before .before .before .before .before .before .before .before .before .before .before .before .pre .4 in
     let rank : length (went .numbers) ≡ getD (a .ranks .now) (c .before .before .before .before .before .before .before .before .before .before .before .before .before .before .before .before .n .given .0 .0) 0 =
-        many-length (oneOf (a .table .now) (a .states)) (c .before .before .before .before .before .before .before .before .before .before .before .before .before .wide .result) _ (went .seen) ∙ c .before .before .before .before .before .before .before .before .before .before .before .before .before .wide .ensures .0 in
-    rw (transition-found (a .table .now) (a .ranks .now) (a .symbols) (a .states) (a .place .at) few _ _ (c .before .before .before .before .before .before .before .before .before .before .before .before .before .wide .result) (symbol-found (c .before .before .before .before .before .before .before .before .before .before .before .before .before .before .before)) (c .before .before .before .before .before .before .before .before .before .before .before .before .before .wide .ensures .0) (went .numbers) _ (went .seen) _ _ (sym (c .before .before .before .before .before .before .before .read-state .ensures) ∙ ap stateFound (c .before .before .before .before .before .q .given .1)) _ _ (sym (c .before .before .before .listed-code .ensures) ∙ ap asFound (c .before .n2 .given .1)))
-    (refl,
-    row-is (a .ranks .now) (a .symbol .now) (a .children .now) _ (a .target .now) (a .code .now) (a .j) _ _ _ (went .numbers)
-        (omega (arith, long .symbol)) (omega (arith, long .target)) (omega (arith, long .code)) (rw rank at (went .stand)),
-    rw (getD-set-same (a .symbol .now) (a .j) (c .before .before .before .before .before .before .before .before .before .before .before .before .before .before .before .before .n .given .0 .0) 0 (omega (arith, long .symbol))) (symbol-small (c .before .before .before .before .before .before .before .before .before .before .before .before .before .before .before)),
-    row-kept (a .ranks .now) (a .symbol .now) (a .children .now) _ (a .target .now) (a .code .now) (a .j) _ _ _ (went .kept),
-    row-long (a .ranks .now) (a .symbol .now) (a .children .now) _ (a .target .now) (a .code .now) (a .j) _ _ _ (went .long) long)
+    many-length (oneOf (a .table .now) (a .states)) (c .before .before .before .before .before .before .before .before .before .before .before .before .before .wide .result) _ (went .seen) ∙ c .before .before .before .before .before .before .before .before .before .before .before .before .before .wide .ensures .0 in
+    rw (transition-found (a .table .now) (a .ranks .now) (a .symbols) (a .states) (a .place .at) few _ _ (c .before .before .before .before .before .before .before .before .before .before .before .before .before .wide .result) (symbol-found (c .before .before .before .before .before .before .before .before .before .before .before .before .before .before .before)) (c .before .before .before .before .before .before .before .before .before .before .before .before .before .wide .ensures .0) (went .numbers) _ (went .seen) _ _ (sym (c .before .before .before .before .before .before .before .read-state .ensures) ∙ ap stateFound (c .before .before .before .before .before .q .given .1)) _ _ (sym (c .before .before .before .listed-code .ensures) ∙ ap asFound (c .before .n2 .given .1))) (
+      refl,
+      row-is (a .ranks .now) (a .symbol .now) (a .children .now) _ (a .target .now) (a .code .now) (a .j) _ _ _ (went .numbers)
+          (omega (arith, long .symbol)) (omega (arith, long .target)) (omega (arith, long .code)) (rw rank at (went .stand)),
+      rw (getD-set-same (a .symbol .now) (a .j) (c .before .before .before .before .before .before .before .before .before .before .before .before .before .before .before .before .n .given .0 .0) 0 (omega (arith, long .symbol))) (symbol-small (c .before .before .before .before .before .before .before .before .before .before .before .before .before .before .before)),
+      row-kept (a .ranks .now) (a .symbol .now) (a .children .now) _ (a .target .now) (a .code .now) (a .j) _ _ _ (went .kept),
+      row-long (a .ranks .now) (a .symbol .now) (a .children .now) _ (a .target .now) (a .code .now) (a .j) _ _ _ (went .long) long,
+    )
 
 pub read-transition-spec : {M : Type 1} → statement M
 read-transition-spec =

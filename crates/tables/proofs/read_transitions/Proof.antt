@@ -1,24 +1,17 @@
 -- `tables::read_transitions` meets its contract. The invariant is `Rowing`: so many transitions are in the columns, each above the
 -- one before.
 -- Assumes nothing.
-use Prim.Native.Nat.{ℕ, _+_, _-_, _≤_, _<_}
-use mathlib.Core.Path.{_≡_, refl, sym, ap, _∙_}
-use mathlib.Core.Bool.{true, false}
-use mathlib.Core.List.{List, []}
+use Prim.Native.Nat.{_-_, _≤_}
+use mathlib.Core.Path.{sym, _∙_}
 use native.Mathlib.Omega.{arith}
 use borrow.Author.Tests.{not-true, not-false}
-use lib.ListN.{length, take, getD}
+use lib.ListN.{take}
 use Rattle.format.specs.Read.{transitionAt}
-use Rattle.model.specs.Table.{lower, key}
-use Rattle.tables.specs.Record.{Columns, columns, rowAt}
-use Rattle.tables.proofs.Rows.{Rowing, RowWent, keyBelow, row-next, row-refused, rowing-starts, rowing-goes-on, rowing-ends, rowing-refused, rowing-not-above}
+use Rattle.tables.specs.Record.{Columns, columns}
+use Rattle.tables.proofs.Rows.{Rowing, RowWent, row-next, row-refused, rowing-starts, rowing-goes-on, rowing-ends, rowing-refused, rowing-not-above}
 use borrow.Author.Needs.{needs}
 use Rattle.tables.proofs.read_transitions.Statement.{statement}
 use Rattle.tables.proofs.read_transitions.Tie as tie
-use Rattle.tables.proofs.read_transitions.Reads as reads
-use Rattle.tables.proofs.read_transitions.Lts as lts
-use Rattle.tables.proofs.ascends.Reads as ascends-reads
-use Rattle.tables.proofs.read_transition.Reads as read-transition-reads
 
 abbrev Inv-loop : tie.InvT-loop
 Inv-loop table states symbols count ranks symbol₀ children₀ target₀ code₀ next₀ j₀ symbol children target code next j =
@@ -41,35 +34,29 @@ went c =
     let l = c .before .before .before .before .before .before .before .before .before .loop in
     row-next _ (l .j) _ _ (c .before .before .before .read-transition .result) _ (c .before .before .before .read-transition .ensures) (c .before .behind .given .1)
 
--- src/lib.rt:262:5
 loop-holds : tie.Need-loop-holds Inv-loop μ-loop
 loop-holds c =
     let a = c .before .args in
     rowing-starts (a .table .now) (take (a .symbols) (a .ranks .now)) (a .states) (a .count) (a .place .at) (columns (a .ranks .now) (a .symbol .now) (a .children .now) (a .target .now) (a .code .now)) (c .before .pre .4)
 
--- src/lib.rt:264:15
 read-transition-requires : tie.Need-read-transition-requires Inv-loop μ-loop
 read-transition-requires c κs =
     let few : c .before .before .before .before .before .before .before .args .count ≤ 4000 = c .before .before .before .before .before .before .before .pre .2 in
     let more = c .before .before .before .before .loop-test .taken in
     (c .before .before .before .before .before .before .before .pre .0, c .before .before .before .before .before .before .before .pre .1, omega arith, c .before .before .before .before .before .before .before .pre .3, c .before .before .before .before .before .loop .inv .long)
 
--- src/lib.rt:265:24
 enum-known-behind : tie.Need-enum-known-behind Inv-loop μ-loop
 enum-known-behind c = search needs
 
--- src/lib.rt:268:27
 enum-known-refusal : tie.Need-enum-known-refusal Inv-loop μ-loop
 enum-known-refusal c = search needs
 
--- src/lib.rt:269:17
 returns : tie.Need-returns Inv-loop μ-loop
 returns c =
     let a = c .before .before .before .before .before .before .before .before .before .before .before .args in
     let l = c .before .before .before .before .before .before .before .before .before .loop in
     rowing-refused (a .table .now) (take (a .symbols) (a .ranks .now)) (a .states) (a .count) (a .place .at) (columns (a .ranks .now) (l .symbol) (l .children) (l .target) (l .code)) _ (l .j) (l .next .at) (l .inv) (c .before .before .before .before .before .before .before .before .loop-test .taken) _ (row-refused _ (l .j) _ _ (c .before .before .before .read-transition .result) _ (c .before .before .before .read-transition .ensures) (c .before .refusal .given .1))
 
--- src/lib.rt:272:13
 ascends-requires : tie.Need-ascends-requires Inv-loop μ-loop
 ascends-requires c κs =
     let w = went (c .before .before .before) in
@@ -77,7 +64,6 @@ ascends-requires c κs =
     let more = c .before .before .before .before .before .before .before .before .before .before .before .loop-test .taken in
     (omega arith, w .known, w .long .ranks, w .long .symbol, w .long .children, w .long .target, c .before .before .before .before .before .before .before .before .before .before .before .before .before .before .pre .3)
 
--- src/lib.rt:273:13
 returns-2 : tie.Need-returns-2 Inv-loop μ-loop
 returns-2 c =
     let a = c .before .before .before .before .before .before .before .before .before .before .before .before .before .before .before .before .args in
@@ -85,15 +71,12 @@ returns-2 c =
     let w = went (c .before .before .before .before .before) in
     rowing-not-above (a .table .now) (take (a .symbols) (a .ranks .now)) (a .states) (a .count) (a .place .at) (columns (a .ranks .now) (l .symbol) (l .children) (l .target) (l .code)) (stored (c .before .before .before .before .before)) (l .j) (l .next .at) (l .inv) (c .before .before .before .before .before .before .before .before .before .before .before .before .before .loop-test .taken) _ (w .seen) (w .kept) (c .before .before .before .before .before .before .before .before .before .before .before .before .before .before .before .before .pre .3) (sym (c .before .ascends .ensures) ∙ not-true (c .before .ascends .result) (c .if1 .taken))
 
--- src/lib.rt:275:9
 add-j : tie.Need-add-j Inv-loop μ-loop
 add-j c = search needs
 
--- src/lib.rt:262:5
 loop-less : tie.Need-loop-less Inv-loop μ-loop
 loop-less c = search needs
 
--- src/lib.rt:262:5
 loop-again : tie.Need-loop-again Inv-loop μ-loop
 loop-again c =
     let a = c .before .before .before .before .before .before .before .before .before .before .before .before .before .before .before .before .args in
@@ -101,7 +84,6 @@ loop-again c =
     let w = went (c .before .before .before .before .before) in
     rowing-goes-on (a .table .now) (take (a .symbols) (a .ranks .now)) (a .states) (a .count) (a .place .at) (columns (a .ranks .now) (l .symbol) (l .children) (l .target) (l .code)) (stored (c .before .before .before .before .before)) (l .j) (l .next .at) (l .inv) (c .before .before .before .before .before .before .before .before .before .before .before .before .before .loop-test .taken) _ (w .seen) (w .kept) (c .before .before .before .before .before .before .before .before .before .before .before .before .before .before .before .before .pre .3) (sym (c .before .ascends .ensures) ∙ not-false (c .before .ascends .result) (c .if1 .left)) (w .long)
 
--- src/lib.rt:255:1
 returns-3 : tie.Need-returns-3 Inv-loop μ-loop
 returns-3 c =
     let a = c .before .before .before .args in

@@ -1,18 +1,11 @@
 -- `writer::put_column` meets its contract. The invariant is `Columned`: so many numbers of the column are put.
 -- Assumes nothing.
-use Prim.Native.Nat.{ℕ, _+_, _-_, _≤_}
-use mathlib.Core.Path.{_≡_, refl, sym, ap, _∙_}
+use Prim.Native.Nat.{_-_}
 use native.Mathlib.Omega.{arith}
-use native.Mathlib.Nat.{zero-add}
-use lib.ListN.{length, getD}
 use Rattle.writer.proofs.Columns.{Columned, columned-starts, columned-fits, columned-goes-on, columned-ends}
 use borrow.Author.Needs.{needs}
 use Rattle.writer.proofs.put_column.Statement.{statement}
 use Rattle.writer.proofs.put_column.Tie as tie
-use Rattle.writer.proofs.put_column.Reads as reads
-use Rattle.writer.proofs.put_column.Lts as lts
-use Rattle.writer.proofs.put_number.Reads as put-number-reads
-use Rattle.writer.proofs.wide.Reads as wide-reads
 
 abbrev Inv-loop : tie.InvT-loop
 Inv-loop column from count room₀ at place₀ i₀ room place i =
@@ -22,54 +15,44 @@ abbrev μ-loop : tie.MeasureT-loop
 μ-loop column from count room₀ at place₀ i₀ room place i =
     count - i
 
--- src/lib.rt:42:5
 loop-holds : tie.Need-loop-holds Inv-loop μ-loop
 loop-holds c =
     let a = c .before .before .args in
     columned-starts (a .column .now) (a .from) (a .count) (a .room .now) (a .at)
 
--- src/lib.rt:43:53
 add-wide : tie.Need-add-wide Inv-loop μ-loop
 add-wide c =
     let l = c .before .before .loop in omega (arith, c .before .before .before .before .before .pre .0, c .before .before .before .before .before .good .0 .0)
 
--- src/lib.rt:43:46
 shared-slice-read-wide : tie.Need-shared-slice-read-wide Inv-loop μ-loop
 shared-slice-read-wide c =
     omega (arith, c .before .before .before .before .before .before .pre .0, c .before .before .loop-test .taken)
 
--- src/lib.rt:43:41
 wide-requires : tie.Need-wide-requires Inv-loop μ-loop
 wide-requires c κs = search needs
 
--- src/lib.rt:43:9
 put-number-requires : tie.Need-put-number-requires Inv-loop μ-loop
 put-number-requires c κs =
     let a = c .before .before .before .before .before .before .before .args in
     let l = c .before .before .before .before .loop in
     columned-fits (a .column .now) (a .from) (a .count) (a .room .now) (a .at) (l .room) (l .place) (l .i) (l .inv) (omega (arith, c .before .before .before .before .before .before .before .pre .0)) (c .before .before .before .loop-test .taken) (c .wide .result) (c .wide .ensures .0) (c .before .before .before .before .before .before .before .pre .1)
 
--- src/lib.rt:44:9
 add-i : tie.Need-add-i Inv-loop μ-loop
 add-i c = search needs
 
--- src/lib.rt:42:5
 loop-less : tie.Need-loop-less Inv-loop μ-loop
 loop-less c = search needs
 
--- src/lib.rt:42:5
 loop-again : tie.Need-loop-again Inv-loop μ-loop
 loop-again c =
     let a = c .before .before .before .before .before .before .before .before .before .before .args in
     let l = c .before .before .before .before .before .before .before .loop in
     columned-goes-on (a .column .now) (a .from) (a .count) (a .room .now) (a .at) (l .room) (l .place) (l .i) (l .inv) (omega (arith, c .before .before .before .before .before .before .before .before .before .before .pre .0)) (c .before .before .before .before .before .before .loop-test .taken) (c .before .before .before .wide .result) (c .before .before .before .wide .ensures .0) _ _ (c .before .before .put-number .ensures)
 
--- src/lib.rt:36:1
 same-length : tie.Need-same-length Inv-loop μ-loop
 same-length c =
     c .before .loop .inv .putting .long
 
--- src/lib.rt:36:1
 returns : tie.Need-returns Inv-loop μ-loop
 returns c =
     let a = c .before .before .before .before .args in

@@ -1,17 +1,14 @@
 -- `writer::put_finals` meets its contract. The invariant is `Columned`: so many numbers of the column are put.
 -- Assumes nothing.
-use Prim.Native.Nat.{ℕ, _+_, _-_, _≤_}
-use mathlib.Core.Path.{_≡_, refl, sym, ap, _∙_}
+use Prim.Native.Nat.{ℕ, _-_}
+use mathlib.Core.Path.{sym, ap}
 use native.Mathlib.Omega.{arith}
 use native.Mathlib.Nat.{zero-add}
-use lib.ListN.{length, getD}
+use lib.ListN.{getD}
 use Rattle.writer.proofs.Columns.{Columned, columned-starts, columned-fits, columned-goes-on, columned-ends}
 use borrow.Author.Needs.{needs}
 use Rattle.writer.proofs.put_finals.Statement.{statement}
 use Rattle.writer.proofs.put_finals.Tie as tie
-use Rattle.writer.proofs.put_finals.Reads as reads
-use Rattle.writer.proofs.put_finals.Lts as lts
-use Rattle.writer.proofs.put_number.Reads as put-number-reads
 
 abbrev Inv-loop : tie.InvT-loop
 Inv-loop finals states room₀ at place₀ i₀ room place i =
@@ -21,50 +18,41 @@ abbrev μ-loop : tie.MeasureT-loop
 μ-loop finals states room₀ at place₀ i₀ room place i =
     states - i
 
--- src/lib.rt:56:5
 loop-holds : tie.Need-loop-holds Inv-loop μ-loop
 loop-holds c =
     let a = c .before .before .args in
     columned-starts (a .finals .now) 0 (a .states) (a .room .now) (a .at)
 
--- src/lib.rt:57:41
 mul-put-number : tie.Need-mul-put-number Inv-loop μ-loop
 mul-put-number c =
     omega (arith, c .before .before .before .before .before .pre .0, c .before .loop-test .taken, c .before .before .before .before .before .good .0 .1)
 
--- src/lib.rt:57:41
 shared-slice-read-put-number : tie.Need-shared-slice-read-put-number Inv-loop μ-loop
 shared-slice-read-put-number c =
     omega (arith, c .before .before .before .before .before .before .pre .0, c .before .before .loop-test .taken)
 
--- src/lib.rt:57:9
 put-number-requires : tie.Need-put-number-requires Inv-loop μ-loop
 put-number-requires c κs =
     let a = c .before .before .before .before .before .before .args in
     let l = c .before .before .before .loop in
     columned-fits (a .finals .now) 0 (a .states) (a .room .now) (a .at) (l .room) (l .place) (l .i) (l .inv) (omega (arith, c .before .before .before .before .before .before .pre .0)) (c .before .before .loop-test .taken) (getD (a .finals .now) (l .i) 0) (ap (λ (k : ℕ). getD (a .finals .now) k 0) (sym (zero-add (l .i)))) (c .before .before .before .before .before .before .pre .1)
 
--- src/lib.rt:58:9
 add-i : tie.Need-add-i Inv-loop μ-loop
 add-i c = search needs
 
--- src/lib.rt:56:5
 loop-less : tie.Need-loop-less Inv-loop μ-loop
 loop-less c = search needs
 
--- src/lib.rt:56:5
 loop-again : tie.Need-loop-again Inv-loop μ-loop
 loop-again c =
     let a = c .before .before .before .before .before .before .before .before .before .args in
     let l = c .before .before .before .before .before .before .loop in
     columned-goes-on (a .finals .now) 0 (a .states) (a .room .now) (a .at) (l .room) (l .place) (l .i) (l .inv) (omega (arith, c .before .before .before .before .before .before .before .before .before .pre .0)) (c .before .before .before .before .before .loop-test .taken) (getD (a .finals .now) (l .i) 0) (ap (λ (k : ℕ). getD (a .finals .now) k 0) (sym (zero-add (l .i)))) _ _ (c .before .before .put-number .ensures)
 
--- src/lib.rt:50:1
 same-length : tie.Need-same-length Inv-loop μ-loop
 same-length c =
     c .before .loop .inv .putting .long
 
--- src/lib.rt:50:1
 returns : tie.Need-returns Inv-loop μ-loop
 returns c =
     let a = c .before .before .before .before .args in

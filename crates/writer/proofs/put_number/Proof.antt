@@ -1,18 +1,15 @@
 -- `writer::put_number` meets its contract. The invariant: the bytes put, and the written form of the rest, are the written form of the number.
 -- Assumes nothing.
-use Prim.Native.Nat.{ℕ, _+_, _/_, _%_, _≤_, _<_, _^_}
-use mathlib.Core.Path.{_≡_, refl, sym, ap, _∙_, subst}
-use mathlib.Core.List.{List, [], _∷_}
+use Prim.Native.Nat.{_+_, _/_, _%_, _≤_, _<_, _^_}
+use mathlib.Core.Path.{refl, _∙_, subst}
+use mathlib.Core.List.{[], _∷_}
 use native.Mathlib.Omega.{arith}
-use lib.ListN.{length, set, length-set}
+use lib.ListN.{length, length-set}
 use Rattle.numbers.specs.Written.{written}
 use Rattle.writer.proofs.Putting.{Putting, putting-starts, putting-goes-on, putting-fits, putting-ends, put-one}
 use Rattle.writer.proofs.Short.{written-short, written-long}
-use borrow.Author.Needs.{needs}
 use Rattle.writer.proofs.put_number.Statement.{statement}
 use Rattle.writer.proofs.put_number.Tie as tie
-use Rattle.writer.proofs.put_number.Reads as reads
-use Rattle.writer.proofs.put_number.Lts as lts
 
 abbrev Inv-loop : tie.InvT-loop
 Inv-loop room₀ at number place₀ rest₀ room place rest =
@@ -54,65 +51,55 @@ last-fits c =
     let l = c .before .loop in
     putting-fits (a .room .now) (a .at) (written (a .number)) (l .room) (l .place) (l .rest ∷ []) [] (last c) (c .before .before .pre)
 
--- src/lib.rt:20:5
 loop-holds : tie.Need-loop-holds Inv-loop μ-loop
 loop-holds c =
     (putting-starts (c .args .room .now) (c .args .at) (written (c .args .number)), c .fits .number .fits)
 
--- src/lib.rt:21:24
 add-room : tie.Need-add-room Inv-loop μ-loop
 add-room c =
     omega arith
 
--- src/lib.rt:21:23
 cast-room : tie.Need-cast-room Inv-loop μ-loop
 cast-room c =
     omega arith
 
--- src/lib.rt:21:9
 slice-write-room : tie.Need-slice-write-room Inv-loop μ-loop
 slice-write-room c =
     omega (arith, more-fits c)
 
--- src/lib.rt:23:9
 add-place : tie.Need-add-place Inv-loop μ-loop
 add-place c =
     omega (arith, more-fits c, c .before .before .good .0 .0, c .before .loop .inv .0 .long)
 
--- src/lib.rt:20:5
 loop-less : tie.Need-loop-less Inv-loop μ-loop
 loop-less c =
     omega arith
 
--- src/lib.rt:20:5
 loop-again : tie.Need-loop-again Inv-loop μ-loop
 loop-again c =
     let a = c .before .before .args in
-    let l = c .before .loop in
-    (putting-goes-on (a .room .now) (a .at) (written (a .number)) (l .room) (l .place) ((128 + l .rest % 128) ∷ []) (written (l .rest / 128)) _ _ (more c)
-    (put-one (l .room) (l .place) (128 + l .rest % 128) (l .place + 1) refl), omega (arith, l .inv .1))
+    let l = c .before .loop in (
+      putting-goes-on (a .room .now) (a .at) (written (a .number)) (l .room) (l .place) ((128 + l .rest % 128) ∷ []) (written (l .rest / 128)) _ _ (more c)
+          (put-one (l .room) (l .place) (128 + l .rest % 128) (l .place + 1) refl),
+      omega (arith, l .inv .1),
+    )
 
--- src/lib.rt:25:19
 cast-room-2 : tie.Need-cast-room-2 Inv-loop μ-loop
 cast-room-2 c =
     omega arith
 
--- src/lib.rt:25:5
 slice-write-room-2 : tie.Need-slice-write-room-2 Inv-loop μ-loop
 slice-write-room-2 c =
     omega (arith, last-fits c)
 
--- src/lib.rt:26:5
 add-result : tie.Need-add-result Inv-loop μ-loop
 add-result c =
     omega (arith, last-fits c, c .before .before .good .0 .0, c .before .loop .inv .0 .long)
 
--- src/lib.rt:14:1
 same-length : tie.Need-same-length Inv-loop μ-loop
 same-length c =
     length-set (c .before .loop .room) (c .before .loop .place) (c .before .loop .rest) ∙ c .before .loop .inv .0 .long
 
--- src/lib.rt:14:1
 returns : tie.Need-returns Inv-loop μ-loop
 returns c =
     let a = c .before .before .args in

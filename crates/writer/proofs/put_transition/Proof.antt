@@ -1,8 +1,8 @@
 -- `writer::put_transition` meets its contract: its pieces are put one behind the other.
 -- Assumes nothing.
-use Prim.Native.Nat.{ℕ, _+_, _*_, _≤_, _<_}
-use mathlib.Core.Path.{_≡_, refl, sym, ap, _∙_, subst}
-use mathlib.Core.List.{List, [], _∷_, _++_}
+use Prim.Native.Nat.{ℕ, _+_, _*_, _≤_}
+use mathlib.Core.Path.{_≡_, ap, _∙_, subst}
+use mathlib.Core.List.{List, [], _++_}
 use native.Mathlib.Omega.{arith}
 use lib.ListN.{length, take, drop, getD}
 use Rattle.numbers.specs.Written.{written, writtenAll}
@@ -14,11 +14,6 @@ use Rattle.writer.proofs.Putting.{Putting, putting-starts, putting-goes
 use borrow.Author.Needs.{needs}
 use Rattle.writer.proofs.put_transition.Statement.{statement}
 use Rattle.writer.proofs.put_transition.Tie as tie
-use Rattle.writer.proofs.put_transition.Reads as reads
-use Rattle.writer.proofs.put_transition.Lts as lts
-use Rattle.writer.proofs.put_column.Reads as put-column-reads
-use Rattle.writer.proofs.put_number.Reads as put-number-reads
-use Rattle.writer.proofs.wide.Reads as wide-reads
 
 abbrev cols : (c : tie.Start) → Columns
 cols c = let a = c .args in columns (a .ranks .now) (a .symbol .now) (a .children .now) (a .target .now) (a .code .now)
@@ -66,83 +61,66 @@ target-put c =
     (written (getD (s .args .code .now) (s .args .j) 0) ++ []) _ _ (children-put (c .before .before .before .before .before .before))
     (subst (λ (x : ℕ). Put (c .before .before .before .before .before .before .put-column .last .1 .1 .1 .0) (c .before .before .before .before .before .before .put-column .result) (written x) (c .put-number2 .last .0) (c .put-number2 .result)) (c .before .wide3 .ensures .0) (c .put-number2 .ensures))
 
--- src/lib.rt:69:22
 shared-slice-read-wide : tie.Need-shared-slice-read-wide
 shared-slice-read-wide c = search needs
 
--- src/lib.rt:69:9
 wide-requires : tie.Need-wide-requires
 wide-requires c κs = search needs
 
--- src/lib.rt:70:27
 cast-wide : tie.Need-cast-wide
 cast-wide c = search needs
 
--- src/lib.rt:70:21
 shared-slice-read-wide-2 : tie.Need-shared-slice-read-wide-2
 shared-slice-read-wide-2 c = search needs
 
--- src/lib.rt:70:16
 wide-requires-2 : tie.Need-wide-requires-2
 wide-requires-2 c κs = search needs
 
--- src/lib.rt:70:16
 cast-rank : tie.Need-cast-rank
 cast-rank c = search needs
 
--- src/lib.rt:71:9
 put-number-requires : tie.Need-put-number-requires
 put-number-requires c κs =
     let s = c .before .before .before .before .before .before .before .before .before .before .before in
     putting-fits (s .args .room .now) (s .args .at) (whole s) (s .args .room .now) (s .args .at) (written (c .before .before .before .wide .result)) (kids (c .before) ++ ends s) (none-put c) (s .pre .1)
 
--- src/lib.rt:72:34
 mul-put-column : tie.Need-mul-put-column
 mul-put-column c = search needs
 
--- src/lib.rt:72:5
 put-column-requires : tie.Need-put-column-requires
 put-column-requires c κs =
     let s = c .before .before .before .before .before .before .before .before .before .before .before .before .before .before .before in
     let inside : s .args .j * 4 + getD (s .args .ranks .now) (getD (s .args .symbol .now) (s .args .j) 0) 0 ≤ length (s .args .children .now) = s .pre .0 .children in
     let rank : c .before .before .before .before .before .wide2 .result ≡ getD (s .args .ranks .now) (getD (s .args .symbol .now) (s .args .j) 0) 0 =
-        c .before .before .before .before .before .wide2 .ensures .0 ∙ ap (λ (x : ℕ). getD (s .args .ranks .now) x 0) (c .before .before .before .before .before .before .before .wide .ensures .0) in
+    c .before .before .before .before .before .wide2 .ensures .0 ∙ ap (λ (x : ℕ). getD (s .args .ranks .now) x 0) (c .before .before .before .before .before .before .before .wide .ensures .0) in
     (omega arith, putting-fits (s .args .room .now) (s .args .at) (whole s) (c .before .before .before .put-number .last .0) (c .before .before .before .put-number .result) (kids (c .before .before .before .before .before)) (ends s) (symbol-put (c .before .before .before)) (s .pre .1))
 
--- src/lib.rt:73:42
 shared-slice-read-wide-3 : tie.Need-shared-slice-read-wide-3
 shared-slice-read-wide-3 c = search needs
 
--- src/lib.rt:73:37
 wide-requires-3 : tie.Need-wide-requires-3
 wide-requires-3 c κs = search needs
 
--- src/lib.rt:73:5
 put-number-requires-2 : tie.Need-put-number-requires-2
 put-number-requires-2 c κs =
     let s = c .before .before .before .before .before .before .before .before .before .before .before .before .before .before .before .before .before .before .before .before .before in
     rw (c .wide3 .ensures .0) (putting-fits (s .args .room .now) (s .args .at) (whole s) (c .before .before .before .before .before .put-column .last .1 .1 .1 .0) (c .before .before .before .before .before .put-column .result) (written (getD (s .args .target .now) (s .args .j) 0))
     (written (getD (s .args .code .now) (s .args .j) 0) ++ []) (children-put (c .before .before .before .before .before)) (s .pre .1))
 
--- src/lib.rt:74:29
 mul-put-number : tie.Need-mul-put-number
 mul-put-number c = search needs
 
--- src/lib.rt:74:29
 shared-slice-read-put-number : tie.Need-shared-slice-read-put-number
 shared-slice-read-put-number c = search needs
 
--- src/lib.rt:74:5
 put-number-requires-3 : tie.Need-put-number-requires-3
 put-number-requires-3 c κs =
     let s = c .before .before .before .before .before .before .before .before .before .before .before .before .before .before .before .before .before .before .before .before .before .before .before .before .before .before in
     putting-fits (s .args .room .now) (s .args .at) (whole s) (c .before .before .before .before .put-number2 .last .0) (c .before .before .before .before .put-number2 .result) (written (getD (s .args .code .now) (s .args .j) 0)) [] (target-put (c .before .before .before .before)) (s .pre .1)
 
--- src/lib.rt:65:1
 same-length : tie.Need-same-length
 same-length c = search needs
 
--- src/lib.rt:65:1
 returns : tie.Need-returns
 returns c =
     let s = c .before .before .before .before .before .before .before .before .before .before .before .before .before .before .before .before .before .before .before .before .before .before .before .before .before .before .before .before .before in

@@ -1,11 +1,10 @@
 -- `writer::put_transitions` meets its contract. The invariant: the rows from j on, put from here, make the room as all rows put from the start make it.
 -- Assumes nothing.
-use Prim.Native.Nat.{ℕ, _+_, _-_, _≤_, _<_}
-use mathlib.Core.Path.{_≡_, refl, sym, ap, _∙_, subst}
-use mathlib.Core.List.{List, [], _∷_, _++_}
+use Prim.Native.Nat.{ℕ, _+_, _-_, _≤_}
+use mathlib.Core.Path.{subst}
+use mathlib.Core.List.{List, _++_}
 use native.Mathlib.Omega.{arith}
 use native.Mathlib.Nat.{sub-zero}
-use lib.ListN.{length}
 use Rattle.numbers.specs.Written.{writtenAll}
 use Rattle.format.specs.Written.{transitionNumbers, transitionsNumbers}
 use Rattle.tables.specs.Record.{Columns, columns, rowAt, rowsFrom}
@@ -14,9 +13,6 @@ use Rattle.writer.proofs.Putting.{Putting, putting-starts, putting-goes
 use borrow.Author.Needs.{needs}
 use Rattle.writer.proofs.put_transitions.Statement.{statement}
 use Rattle.writer.proofs.put_transitions.Tie as tie
-use Rattle.writer.proofs.put_transitions.Reads as reads
-use Rattle.writer.proofs.put_transitions.Lts as lts
-use Rattle.writer.proofs.put_transition.Reads as put-transition-reads
 
 -- the written form of k rows from row j on
 abbrev rows : Columns → ℕ → ℕ → List ℕ
@@ -38,46 +34,39 @@ opened : (c : tie.In-loop Inv-loop μ-loop) →
     let s = c .before .before .before .before .before .before .before .before in
     let l = c .before .loop in
     Putting (s .args .room .now) (s .args .at) (rows (cols s) 0 (s .args .count)) (l .room) (l .place)
-        (writtenAll (transitionNumbers (rowAt (cols s) (l .j))) ++ rows (cols s) (l .j + 1) (s .args .count - (l .j + 1)))
+    (writtenAll (transitionNumbers (rowAt (cols s) (l .j))) ++ rows (cols s) (l .j + 1) (s .args .count - (l .j + 1)))
 opened c =
     let s = c .before .before .before .before .before .before .before .before in
     let l = c .before .loop in
     subst (Putting (s .args .room .now) (s .args .at) (rows (cols s) 0 (s .args .count)) (l .room) (l .place)) (rows-open (cols s) (l .j) (s .args .count) (c .loop-test .taken)) (l .inv .1)
 
--- src/lib.rt:84:5
 loop-holds : tie.Need-loop-holds Inv-loop μ-loop
 loop-holds c =
     let s = c .before .before .before .before .before .before in
     (omega arith, rw (sub-zero (s .args .count)) (putting-starts (s .args .room .now) (s .args .at) (rows (cols s) 0 (s .args .count))))
 
--- src/lib.rt:85:9
 put-transition-requires : tie.Need-put-transition-requires Inv-loop μ-loop
 put-transition-requires c κs =
     let s = c .before .before .before .before .before .before .before .before .before in
     let l = c .before .before .loop in
     (s .pre .0 (l .j) (c .before .loop-test .taken), putting-fits (s .args .room .now) (s .args .at) (rows (cols s) 0 (s .args .count)) (l .room) (l .place) (writtenAll (transitionNumbers (rowAt (cols s) (l .j)))) (rows (cols s) (l .j + 1) (s .args .count - (l .j + 1))) (opened (c .before)) (s .pre .1))
 
--- src/lib.rt:86:9
 add-j : tie.Need-add-j Inv-loop μ-loop
 add-j c = search needs
 
--- src/lib.rt:84:5
 loop-less : tie.Need-loop-less Inv-loop μ-loop
 loop-less c = search needs
 
--- src/lib.rt:84:5
 loop-again : tie.Need-loop-again Inv-loop μ-loop
 loop-again c =
     let s = c .before .before .before .before .before .before .before .before .before .before .before .before in
     let l = c .before .before .before .before .before .loop in
     (omega (arith, c .before .before .before .before .loop-test .taken), putting-goes-on (s .args .room .now) (s .args .at) (rows (cols s) 0 (s .args .count)) (l .room) (l .place) (writtenAll (transitionNumbers (rowAt (cols s) (l .j)))) (rows (cols s) (l .j + 1) (s .args .count - (l .j + 1))) _ _ (opened (c .before .before .before .before)) (c .before .before .put-transition .ensures))
 
--- src/lib.rt:78:1
 same-length : tie.Need-same-length Inv-loop μ-loop
 same-length c =
     c .before .loop .inv .1 .long
 
--- src/lib.rt:78:1
 returns : tie.Need-returns Inv-loop μ-loop
 returns c =
     let s = c .before .before .before .before .before .before .before .before in

@@ -1,28 +1,20 @@
 -- `writer::write` meets its contract: the pieces of the written form are put one behind the other.
 -- Assumes nothing.
-use Prim.Native.Nat.{ℕ, _+_, _≤_, _<_}
-use mathlib.Core.Path.{_≡_, refl, sym, ap, _∙_, subst}
-use mathlib.Core.List.{List, [], _∷_, _++_}
+use Prim.Native.Nat.{ℕ, _+_, _≤_}
+use mathlib.Core.Path.{sym, subst}
+use mathlib.Core.List.{List, [], _++_}
 use native.Mathlib.Omega.{arith}
 use lib.ListN.{length, take}
 use Rattle.numbers.specs.Written.{written, writtenAll}
 use Rattle.format.specs.Written.{transitionsNumbers, bytesOf}
 use Rattle.tables.specs.Record.{rowsFrom, tableOf}
 use Rattle.tables.specs.Steps.{Long}
-use Rattle.tables.specs.declared.TableRecord.{TableRecord}
 use Rattle.writer.specs.Put.{Put}
 use Rattle.writer.proofs.Fields.{columnsOf, few-states, few-symbols, few-transitions, count-is, row-inside}
 use Rattle.writer.proofs.Pieces.{table-pieces}
 use Rattle.writer.proofs.Putting.{Putting, putting-starts, putting-goes-on, putting-fits, putting-ends}
-use borrow.Author.Needs.{needs}
 use Rattle.writer.proofs.write.Statement.{statement}
 use Rattle.writer.proofs.write.Tie as tie
-use Rattle.writer.proofs.write.Reads as reads
-use Rattle.writer.proofs.write.Lts as lts
-use Rattle.writer.proofs.put_column.Reads as put-column-reads
-use Rattle.writer.proofs.put_finals.Reads as put-finals-reads
-use Rattle.writer.proofs.put_number.Reads as put-number-reads
-use Rattle.writer.proofs.put_transitions.Reads as put-transitions-reads
 
 -- what is left behind each piece
 abbrev rest7 : (s : tie.Start) → List ℕ
@@ -108,38 +100,32 @@ rows-put c =
     let s = c .before .before .before .before .before .before .before .before .before .before .before .before .before .before .before .before .before .before .before .before .before .before .before .before .before .before .before .before .before .before .before .before .before .before .before .before .before .before .before .before .before .before .before .before in
     putting-goes-on (s .args .room .now) 0 (whole s) (c .before .before .before .before .before .before .before .before .before .before .before .before .before .before .before .put-number4 .last .0) (c .before .before .before .before .before .before .before .before .before .before .before .before .before .before .before .put-number4 .result) (writtenAll (transitionsNumbers (rowsFrom (columnsOf (s .args .t1)) 0 (s .args .t1 .count)))) [] _ _ (count-put (c .before .before .before .before .before .before .before .before .before .before .before .before .before .before .before)) (c .put-transitions .ensures)
 
--- src/lib.rt:99:9
 put-number-requires : tie.Need-put-number-requires
 put-number-requires c κs =
     let s = c .before .before in
     let whole-fits : 0 + length (whole s) ≤ length (s .args .room .now) = omega (arith, s .pre .1) in
     putting-fits (s .args .room .now) 0 (whole s) (s .args .room .now) 0 (written (s .args .t1 .arithmetic)) (rest1 s) (none-put (c)) whole-fits
 
--- src/lib.rt:100:37
 cast-put-number : tie.Need-cast-put-number
 cast-put-number c =
     let few = few-states (c .before .before .before .before .before .before .args .t1) (c .before .before .before .before .before .before .pre .0) in omega arith
 
--- src/lib.rt:100:5
 put-number-requires-2 : tie.Need-put-number-requires-2
 put-number-requires-2 c κs =
     let s = c .before .before .before .before .before .before in
     let whole-fits : 0 + length (whole s) ≤ length (s .args .room .now) = omega (arith, s .pre .1) in
     putting-fits (s .args .room .now) 0 (whole s) (c .before .before .before .put-number .last .0) (c .before .before .before .put-number .result) (written (s .args .t1 .states)) (rest2 s) (arithmetic-put (c .before .before .before)) whole-fits
 
--- src/lib.rt:101:37
 cast-put-number-2 : tie.Need-cast-put-number-2
 cast-put-number-2 c =
     let few = few-symbols (c .before .before .before .before .before .before .before .before .before .before .args .t1) (c .before .before .before .before .before .before .before .before .before .before .pre .0) in omega arith
 
--- src/lib.rt:101:5
 put-number-requires-3 : tie.Need-put-number-requires-3
 put-number-requires-3 c κs =
     let s = c .before .before .before .before .before .before .before .before .before .before in
     let whole-fits : 0 + length (whole s) ≤ length (s .args .room .now) = omega (arith, s .pre .1) in
     rw (s .pre .0 .symbols) (putting-fits (s .args .room .now) 0 (whole s) (c .before .before .before .put-number2 .last .0) (c .before .before .before .put-number2 .result) (written (length (take (s .args .t1 .symbols) (s .args .t1 .ranks)))) (rest3 s) (states-put (c .before .before .before)) whole-fits)
 
--- src/lib.rt:102:5
 put-column-requires : tie.Need-put-column-requires
 put-column-requires c κs =
     let s = c .before .before .before .before .before .before .before .before .before .before .before .before .before .before .before .before .before in
@@ -147,7 +133,6 @@ put-column-requires c κs =
     let few = few-symbols (s .args .t1) (s .pre .0) in
     (omega (arith, c .before .put-column-arg2 .given), putting-fits (s .args .room .now) 0 (whole s) (c .before .before .before .before .before .before .put-number3 .last .0) (c .before .before .before .before .before .before .put-number3 .result) (writtenAll (take (s .args .t1 .symbols) (s .args .t1 .ranks))) (rest4 s) (symbols-put (c .before .before .before .before .before .before)) whole-fits)
 
--- src/lib.rt:103:5
 put-finals-requires : tie.Need-put-finals-requires
 put-finals-requires c κs =
     let s = c .before .before .before .before .before .before .before .before .before .before .before .before .before .before .before .before .before .before .before .before .before .before .before .before in
@@ -155,38 +140,33 @@ put-finals-requires c κs =
     let few = few-states (s .args .t1) (s .pre .0) in
     (omega (arith, c .before .put-finals-arg2 .given), putting-fits (s .args .room .now) 0 (whole s) (c .before .before .before .before .before .before .put-column .last .1 .1 .1 .0) (c .before .before .before .before .before .before .put-column .result) (writtenAll (take (s .args .t1 .states) (s .args .t1 .finals))) (rest5 s) (ranks-put (c .before .before .before .before .before .before)) whole-fits)
 
--- src/lib.rt:104:37
 cast-put-number-3 : tie.Need-cast-put-number-3
 cast-put-number-3 c =
     let few = few-transitions (c .before .before .before .before .before .before .before .before .before .before .before .before .before .before .before .before .before .before .before .before .before .before .before .before .before .before .before .before .args .t1) (c .before .before .before .before .before .before .before .before .before .before .before .before .before .before .before .before .before .before .before .before .before .before .before .before .before .before .before .before .pre .0) in omega arith
 
--- src/lib.rt:104:5
 put-number-requires-4 : tie.Need-put-number-requires-4
 put-number-requires-4 c κs =
     let s = c .before .before .before .before .before .before .before .before .before .before .before .before .before .before .before .before .before .before .before .before .before .before .before .before .before .before .before .before in
     let whole-fits : 0 + length (whole s) ≤ length (s .args .room .now) = omega (arith, s .pre .1) in
     rw (sym (count-is (s .args .t1) (s .pre .0))) (putting-fits (s .args .room .now) 0 (whole s) (c .before .before .before .put-finals .last .1 .1 .0) (c .before .before .before .put-finals .result) (written (length (rowsFrom (columnsOf (s .args .t1)) 0 (s .args .t1 .count)))) (rest6 s) (finals-put (c .before .before .before)) whole-fits)
 
--- src/lib.rt:105:5
 put-transitions-requires : tie.Need-put-transitions-requires
 put-transitions-requires c κs =
     let s = c .before .before .before .before .before .before .before .before .before .before .before .before .before .before .before .before .before .before .before .before .before .before .before .before .before .before .before .before .before .before .before .before .before .before .before .before .before .before .before .before .before .before .before in
     let whole-fits : 0 + length (whole s) ≤ length (s .args .room .now) = omega (arith, s .pre .1) in
     let long : Long (columnsOf (s .args .t1)) =
-        record {
-            ranks = omega (arith, c .before .before .before .before .before .before .before .before .before .put-transitions-arg2 .given);
-            symbol = omega (arith, c .before .before .before .before .before .before .before .put-transitions-arg4 .given);
-            children = omega (arith, c .before .before .before .before .before .put-transitions-arg6 .given);
-            target = omega (arith, c .before .before .before .put-transitions-arg8 .given);
-            code = omega (arith, c .before .put-transitions-arg10 .given)
-        } in
+    record {
+      ranks = omega (arith, c .before .before .before .before .before .before .before .before .before .put-transitions-arg2 .given);
+      symbol = omega (arith, c .before .before .before .before .before .before .before .put-transitions-arg4 .given);
+      children = omega (arith, c .before .before .before .before .before .put-transitions-arg6 .given);
+      target = omega (arith, c .before .before .before .put-transitions-arg8 .given);
+      code = omega (arith, c .before .put-transitions-arg10 .given);
+    } in
     (row-inside (s .args .t1) (s .pre .0) long, putting-fits (s .args .room .now) 0 (whole s) (c .before .before .before .before .before .before .before .before .before .before .before .before .before .before .put-number4 .last .0) (c .before .before .before .before .before .before .before .before .before .before .before .before .before .before .put-number4 .result) (writtenAll (transitionsNumbers (rowsFrom (columnsOf (s .args .t1)) 0 (s .args .t1 .count)))) (rest7 s) (count-put (c .before .before .before .before .before .before .before .before .before .before .before .before .before .before)) whole-fits)
 
--- src/lib.rt:92:1
 same-length : tie.Need-same-length
 same-length c = rows-put (c .before .before) .long
 
--- src/lib.rt:92:1
 returns : tie.Need-returns
 returns c =
     let s = c .before .before .before .before .before .before .before .before .before .before .before .before .before .before .before .before .before .before .before .before .before .before .before .before .before .before .before .before .before .before .before .before .before .before .before .before .before .before .before .before .before .before .before .before .before .before in

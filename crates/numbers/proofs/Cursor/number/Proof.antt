@@ -1,45 +1,34 @@
 -- `numbers::Cursor::number` meets its contract: each return is one case of the definition.
 -- Assumes nothing.
-use Prim.Native.Nat.{_+_, _-_}
+use Prim.Native.Nat.{_+_}
 use mathlib.Core.Path.{sym, _∙_}
 use native.Mathlib.Omega.{arith}
 use Rattle.numbers.specs.Read.{number-ends, number-short, number-long}
 use borrow.Author.Needs.{needs}
 use Rattle.numbers.proofs.Cursor.number.Statement.{statement}
 use Rattle.numbers.proofs.Cursor.number.Tie as tie
-use Rattle.numbers.proofs.Cursor.number.Reads as reads
-use Rattle.numbers.proofs.Cursor.number.Lts as lts
-use Rattle.numbers.proofs.long_number.Reads as long-number-reads
-use Rattle.numbers.proofs.wide.Reads as wide-reads
 
--- src/lib.rt:29:13
 returns : tie.Need-returns
 returns c = sym (number-ends _ _ (c .if1 .taken))
 
--- src/lib.rt:31:25
 shared-slice-read-wide : tie.Need-shared-slice-read-wide
 shared-slice-read-wide c = search needs
 
--- src/lib.rt:31:13
 wide-requires : tie.Need-wide-requires
 wide-requires c κs = search needs
 
--- src/lib.rt:33:58
 add-t11 : tie.Need-add-t11
 add-t11 c = search needs
 
--- src/lib.rt:33:13
 returns-2 : tie.Need-returns-2
 returns-2 c =
     let a = c .before .before .before .before .before .args in
     let w = c .before .wide in
     sym (number-short (a .table .now) (a .self .at) (a .self .at) (a .self .at + 1) (w .result) (omega arith) (w .ensures .0) (omega arith) (c .if2 .taken))
 
--- src/lib.rt:35:9
 long-number-requires : tie.Need-long-number-requires
 long-number-requires c κs = search needs
 
--- src/lib.rt:24:5
 returns-3 : tie.Need-returns-3
 returns-3 c =
     let a = c .before .before .before .before .before .before .args in

@@ -1,0 +1,4 @@
+pub mod Negation
+pub mod Codes
+pub mod Sums
+pub mod Products

@@ -1,0 +1,72 @@
+-- Programs that the promises rule out, each by its answer on a small table. (Others are must-fail edits.) Document 01's "Run only"
+-- examples that are refused are here too, as readings.
+use Prim.Native.Nat.{ℕ}
+use mathlib.Core.Path.{_≡_, refl, sym, ap, _∙_}
+use mathlib.Core.List.{List, [], _∷_, _++_}
+use native.Mathlib.Omega.{arith}
+use lib.ListN.{replicate}
+use Rattle.answers.specs.declared.Answer.{Answer}
+use Rattle.answers.specs.declared.Answer.the-variants.{Done, Refused}
+use Rattle.answers.specs.declared.Refusal.{Refusal}
+use Rattle.answers.specs.declared.Refusal.the-variants.{TableEnds, NotInTable, ZeroCode, NotAbove, TableGoesOn}
+use Rattle.numbers.specs.Written.{groups}
+use Rattle.numbers.specs.Read.{numberAt, moreFrom}
+use Rattle.format.specs.Read.{refused, many, transitionAt, transitionsAt, tableRead}
+use Rattle.calls.specs.Answers.{checked, Checks, rewrittenRoom, Rewrites}
+
+-- document 01's table A
+abbrev pub bytesA : List ℕ
+bytesA = 0 ∷ 3 ∷ 2 ∷ 0 ∷ 1 ∷ 0 ∷ 0 ∷ 1 ∷ 4 ∷ 0 ∷ 0 ∷ 3 ∷ 0 ∷ 1 ∷ 3 ∷ 1 ∷ 0 ∷ 2 ∷ 5 ∷ 1 ∷ 1 ∷ 2 ∷ 7 ∷ []
+
+a-checked : checked (tableRead bytesA) ≡ Done 3
+unfolding tableRead many transitionsAt transitionAt numberAt moreFrom
+a-checked = refl
+
+never-both : (n : ℕ) (refusal : Refusal) → Done n ≡ Refused refusal → ⊥
+never-both n refusal e = let z : _≡_ {A = ℕ} 0 1 = cc in omega arith
+
+-- one that refuses all tables
+pub refuses-all : (refusal : Refusal) → Checks bytesA (Refused refusal) → ⊥
+refuses-all refusal p = never-both 3 refusal (sym a-checked ∙ sym (p .answer-is))
+
+a-written : rewrittenRoom (tableRead bytesA) (replicate 23 0) ≡ bytesA
+unfolding tableRead many transitionsAt transitionAt numberAt moreFrom groups
+a-written = refl
+
+-- one that leaves the room untouched under code 0
+pub leaves-room : Rewrites bytesA (replicate 23 0) (Done 23) (replicate 23 0) → ⊥
+leaves-room p =
+    let same : replicate 23 0 ≡ bytesA = p .room-is ∙ a-written in
+    let z : _≡_ {A = ℕ} 0 3 = ap (λ (l : List ℕ). lib.ListN.getD l 1 0) same in
+    omega arith
+
+-- one whose refusal touches a byte: a refused table's room is as it was
+pub refusal-untouched : (table before : List ℕ) (refusal : Refusal) (a : Answer) (room : List ℕ) → tableRead table ≡ refused refusal
+    → Rewrites table before a room → (a ≡ Refused refusal) × (room ≡ before)
+refusal-untouched table before refusal a room e p = (p .answer-is ∙ rw e, p .room-is ∙ rw e)
+
+-- one that tests 6 before 5: the second transition is not above the first, and its code is 0
+pub five-before-six : checked (tableRead (0 ∷ 1 ∷ 1 ∷ 0 ∷ 0 ∷ 2 ∷ 0 ∷ 0 ∷ 1 ∷ 0 ∷ 0 ∷ 0 ∷ [])) ≡ Refused (ZeroCode 11)
+unfolding tableRead many transitionsAt transitionAt numberAt moreFrom
+five-before-six = refl
+
+-- document 01's refused examples: no bytes; A with 03 at byte 17, 00 at 18, 00 at 13; one byte more
+pub no-bytes : checked (tableRead []) ≡ Refused (TableEnds 0)
+unfolding tableRead numberAt
+no-bytes = refl
+
+pub unknown-state : checked (tableRead (0 ∷ 3 ∷ 2 ∷ 0 ∷ 1 ∷ 0 ∷ 0 ∷ 1 ∷ 4 ∷ 0 ∷ 0 ∷ 3 ∷ 0 ∷ 1 ∷ 3 ∷ 1 ∷ 0 ∷ 3 ∷ 5 ∷ 1 ∷ 1 ∷ 2 ∷ 7 ∷ [])) ≡ Refused (NotInTable 17)
+unfolding tableRead many transitionsAt transitionAt numberAt moreFrom
+unknown-state = refl
+
+pub zero-code : checked (tableRead (0 ∷ 3 ∷ 2 ∷ 0 ∷ 1 ∷ 0 ∷ 0 ∷ 1 ∷ 4 ∷ 0 ∷ 0 ∷ 3 ∷ 0 ∷ 1 ∷ 3 ∷ 1 ∷ 0 ∷ 2 ∷ 0 ∷ 1 ∷ 1 ∷ 2 ∷ 7 ∷ [])) ≡ Refused (ZeroCode 18)
+unfolding tableRead many transitionsAt transitionAt numberAt moreFrom
+zero-code = refl
+
+pub not-above : checked (tableRead (0 ∷ 3 ∷ 2 ∷ 0 ∷ 1 ∷ 0 ∷ 0 ∷ 1 ∷ 4 ∷ 0 ∷ 0 ∷ 3 ∷ 0 ∷ 0 ∷ 3 ∷ 1 ∷ 0 ∷ 2 ∷ 5 ∷ 1 ∷ 1 ∷ 2 ∷ 7 ∷ [])) ≡ Refused (NotAbove 12)
+unfolding tableRead many transitionsAt transitionAt numberAt moreFrom
+not-above = refl
+
+pub one-byte-more : checked (tableRead (bytesA ++ 0 ∷ [])) ≡ Refused (TableGoesOn 23)
+unfolding tableRead many transitionsAt transitionAt numberAt moreFrom
+one-byte-more = refl

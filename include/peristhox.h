@@ -1,0 +1,59 @@
+/*
+ * Peristhox: weighted tree automata as tables of bytes, checked and written again, every call proved.
+ *
+ * Each call gives back code times 2^32 plus figure: PERISTHOX_CODE and PERISTHOX_FIGURE take the two apart. Code 0 is "done".
+ * Under any other code the call has changed no lent memory. Nothing is kept between calls, nothing is allocated, and a call may
+ * run in any thread.
+ *
+ * A piece of memory is lent as a pointer and a length. Pieces lent to one call must not overlap if one of them is written. A
+ * pointer must not be NULL, also where its length is 0.
+ *
+ * Stack: a call takes at most PERISTHOX_STACK bytes of its thread's stack (measured, see docs/MEASURED.md).
+ */
+#ifndef PERISTHOX_H
+#define PERISTHOX_H
+
+#include <stddef.h>
+#include <stdint.h>
+
+#ifdef __cplusplus
+extern "C" {
+#endif
+
+/* The code and the figure of an answer. */
+#define PERISTHOX_CODE(answer) ((uint32_t)((uint64_t)(answer) >> 32))
+#define PERISTHOX_FIGURE(answer) ((uint32_t)(answer))
+
+/* The codes, and what the figure says. */
+#define PERISTHOX_DONE 0            /* done: see each call */
+#define PERISTHOX_TABLE_ENDS 1      /* a table ends where a byte of a number is due: the table's length */
+#define PERISTHOX_BAD_NUMBER 2      /* a fifth byte of 16 or more, or a needless last zero byte: the number's first byte */
+#define PERISTHOX_OUT_OF_RANGE 3    /* arithmetic, states, symbols, a rank or transitions outside the range: the number's first byte */
+#define PERISTHOX_NOT_IN_TABLE 4    /* a transition's symbol or state isn't in the table: the number's first byte */
+#define PERISTHOX_ZERO_CODE 5       /* a transition's code is 0: the number's first byte */
+#define PERISTHOX_NOT_ABOVE 6       /* a transition isn't above the one before: the transition's first byte */
+#define PERISTHOX_TABLE_GOES_ON 7   /* bytes follow the last transition: the first of them */
+#define PERISTHOX_ROOM_TOO_SHORT 12 /* the lent room is too short: the room needed */
+
+/* The greatest sizes. */
+#define PERISTHOX_TABLE_MAX 65415   /* bytes of a table */
+#define PERISTHOX_STATES_MAX 256
+#define PERISTHOX_SYMBOLS_MAX 128
+#define PERISTHOX_RANK_MAX 4
+#define PERISTHOX_TRANSITIONS_MAX 4000
+#define PERISTHOX_STACK 262144      /* bytes of stack that are enough for every call */
+
+/* Whether the bytes are a table. Done: the number of its states. */
+uint64_t peristhox_check(const uint8_t *table, size_t table_len);
+
+/*
+ * Writes the table that the bytes are into the room, in its one written form (which is the bytes themselves). Done: its length;
+ * the room behind it stays as it was.
+ */
+uint64_t peristhox_rewrite(const uint8_t *table, size_t table_len, uint8_t *room, size_t room_len);
+
+#ifdef __cplusplus
+}
+#endif
+
+#endif
