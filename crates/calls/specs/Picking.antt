@@ -1,5 +1,6 @@
 -- The promise of pick (document 01, "Pick").
 use Prim.Native.Nat.{ℕ, _+_}
+use mathlib.Core.Path.{_≡_, sym, ap₂, _∙_}
 use mathlib.Core.Bool.{Bool, true, false, cond}
 use mathlib.Core.List.{List, []}
 use lib.ListN.{length}
@@ -11,6 +12,7 @@ use Rattle.format.specs.Read.{Found, found, refused, tableRead}
 use Rattle.calls.specs.declared.Size.{Size}
 use Rattle.calls.specs.declared.SizeRead.{SizeRead}
 use Rattle.calls.specs.declared.SizeRead.the-variants as size
+use Rattle.calls.specs.declared.PickAnswer.{PickAnswer}
 use Rattle.calls.specs.declared.Choice.{Choice}
 use Rattle.calls.specs.declared.Choice.the-variants.{First, Second, RefusedFirst, RefusedSecond}
 
@@ -63,3 +65,17 @@ pickedPiece First first second = pieceOf first
 pickedPiece Second first second = pieceOf second
 pickedPiece (RefusedFirst refusal) first second = pieceOf (at-last first [])
 pickedPiece (RefusedSecond refusal) first second = pieceOf (at-last first [])
+
+-- any two pieces, and any two answers, that the promises allow are equal
+pub pick-decided : (first second : RefT (List ℕ)) (p q : Piece) → p ≡ pickedPiece (picked (now first) (now second)) first second
+    → q ≡ pickedPiece (picked (now first) (now second)) first second → p ≡ q
+pick-decided first second p q e f = e ∙ sym f
+
+-- the code and the figure of a pick
+pub record PickAnswers (first second : List ℕ) (answer : PickAnswer) : Type 0 where
+  pub code-is : answer .code ≡ pickCode (picked first second)
+  pub figure-is : answer .figure ≡ pickFigure first second (picked first second)
+
+pub pick-answer-decided : (first second : List ℕ) (a b : PickAnswer) → PickAnswers first second a → PickAnswers first second b → a ≡ b
+pick-answer-decided first second a b p q =
+    ap₂ (λ (c f : ℕ). record { code = c; figure = f }) (p .code-is ∙ sym (q .code-is)) (p .figure-is ∙ sym (q .figure-is))

@@ -6,7 +6,7 @@ ghost use mathlib.Core.Path.{_≡_};
 ghost use Prim.Native.Nat.{ℕ};
 ghost use Rattle.format.specs.Read.{tableRead};
 ghost use Rattle.calls.specs.Answers.{Checks, Rewrites};
-ghost use Rattle.calls.specs.Picking.{sizeOf, pickOf, picked, pickCode, pickFigure, pieceOf, pickedPiece};
+ghost use Rattle.calls.specs.Picking.{sizeOf, picked, pieceOf, pickedPiece, PickAnswers};
 
 // Whether the bytes are a table: done with its number of states.
 pub fn check(table: &[u8]) -> Answer
@@ -117,8 +117,7 @@ pub struct PickAnswer {
 }
 
 pub fn pick_answer(first: &[u8], second: &[u8]) -> PickAnswer
-    ensures { λ r. ⌜ (r .code ≡ pickCode (picked (now (first .entry)) (now (second .entry))))
-        × (r .figure ≡ pickFigure (now (first .entry)) (now (second .entry)) (picked (now (first .entry)) (now (second .entry)))) ⌝ }
+    ensures { λ r. ⌜ PickAnswers (now (first .entry)) (now (second .entry)) r ⌝ }
 {
     match compare(first, second) {
         Choice::First => PickAnswer {

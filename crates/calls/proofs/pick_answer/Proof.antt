@@ -41,19 +41,23 @@ figure-requires-2 c κs = search needs
 
 returns : tie.Need-returns
 returns c =
-    rw (sym (c .before .before .compare .ensures) ∙ c .enum-told .given .1) (refl, refl)
+    let e = sym (c .before .before .compare .ensures) ∙ c .enum-told .given .1 in
+    record { code-is = rw e (refl); figure-is = rw e (refl) }
 
 returns-2 : tie.Need-returns-2
 returns-2 c =
-    rw (sym (c .before .before .compare .ensures) ∙ c .enum-told2 .given .1) (refl, refl)
+    let e = sym (c .before .before .compare .ensures) ∙ c .enum-told2 .given .1 in
+    record { code-is = rw e (refl); figure-is = rw e (refl) }
 
 returns-3 : tie.Need-returns-3
 returns-3 c =
-    rw (sym (c .before .before .before .before .before .compare .ensures) ∙ c .before .before .before .refusal .given .1) (c .before .code .ensures, c .figure .ensures)
+    let e = sym (c .before .before .before .before .before .compare .ensures) ∙ c .before .before .before .refusal .given .1 in
+    record { code-is = rw e (c .before .code .ensures); figure-is = rw e (c .figure .ensures) }
 
 returns-4 : tie.Need-returns-4
 returns-4 c =
-    rw (sym (c .before .before .before .before .before .compare .ensures) ∙ c .before .before .before .refusal2 .given .1) (ap (_+_ 100) (c .before .code2 .ensures), c .figure2 .ensures)
+    let e = sym (c .before .before .before .before .before .compare .ensures) ∙ c .before .before .before .refusal2 .given .1 in
+    record { code-is = rw e (ap (_+_ 100) (c .before .code2 .ensures)); figure-is = rw e (c .figure2 .ensures) }
 
 pub pick-answer-spec : {M : Type 1} → statement M
 pick-answer-spec =
