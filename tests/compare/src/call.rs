@@ -1,9 +1,9 @@
 //! What every compared call shares.
 
 use second::answer;
+use second::families::Family;
 use second::random::Random;
 
-use crate::families::Family;
 use crate::tally::Tally;
 
 /// One of the library's calls and how an input's answer is compared.
@@ -11,17 +11,19 @@ pub struct Call {
     pub name: &'static str,
     /// The codes that the inputs are to meet, so that no part of the comparison is idle.
     pub codes: &'static [u32],
+    /// The inputs: so many times as many random ones as usual, from this seed on.
+    pub families: fn(usize, u64) -> Vec<Family>,
     /// Makes the call on this table, in every way worth trying, and compares all that it changes.
     pub compare: fn(&[u8], &mut Random, &mut Met) -> Result<(), String>,
 }
 
 impl Call {
     /// Compares the call on every input of every family.
-    pub fn run(&self, tally: &mut Tally, families: &[Family]) {
+    pub fn run(&self, tally: &mut Tally, times: usize, seed: u64) {
         let mut met = Met::default();
-        for family in families {
+        for family in (self.families)(times, seed) {
             let name = format!("{}: {}", self.name, family.name);
-            tally.note(&name, self.run_family(family, &mut met));
+            tally.note(&name, self.run_family(&family, &mut met));
         }
         tally.note(
             &format!("{}: every code was met", self.name),
@@ -93,6 +95,10 @@ fn spelled(answer: u64) -> String {
 
 /// What went wrong, with the input that it went wrong on.
 pub fn with_input(wrong: &str, input: &[u8]) -> String {
-    let spelled: Vec<String> = input.iter().map(|byte| format!("{byte:02X}")).collect();
-    format!("{wrong}\ninput: {}", spelled.join(" "))
+    format!("{wrong}\ninput: {}", hex(input))
+}
+
+pub fn hex(bytes: &[u8]) -> String {
+    let spelled: Vec<String> = bytes.iter().map(|byte| format!("{byte:02X}")).collect();
+    spelled.join(" ")
 }

@@ -5,15 +5,22 @@
 //!
 //! TIMES multiplies the number of random inputs (1 if not given), SEED begins the random ones.
 //!
-//! A further call is a further module with a `Call`, and a line in `CALLS`.
+//! A further call is a further module with a `Call`, and a line in `CALLS`. A call that the library
+//! may not have yet stands behind a feature.
 
 mod call;
 mod check;
-mod families;
+#[cfg(feature = "shrink")]
+mod directed;
 mod lent;
 mod named;
 mod rewrite;
+mod room;
+#[cfg(all(feature = "weigh", feature = "shrink"))]
+mod sequence;
 mod tally;
+#[cfg(feature = "weigh")]
+mod weigh;
 
 use std::env;
 use std::process::ExitCode;
@@ -21,7 +28,18 @@ use std::process::ExitCode;
 use call::Call;
 use tally::Tally;
 
-const CALLS: [Call; 2] = [check::CALL, rewrite::CALL];
+const CALLS: &[Call] = &[
+    check::CALL,
+    rewrite::CALL,
+    #[cfg(feature = "weigh")]
+    weigh::CALL,
+    #[cfg(feature = "shrink")]
+    directed::BLOCKS,
+    #[cfg(feature = "shrink")]
+    directed::COLLAPSE,
+    #[cfg(feature = "shrink")]
+    directed::SHRINK,
+];
 
 fn main() -> ExitCode {
     let Some((times, seed)) = arguments() else {
@@ -29,9 +47,15 @@ fn main() -> ExitCode {
         return ExitCode::from(2);
     };
     let mut tally = Tally::new();
-    named::run(&mut tally, &CALLS);
-    for call in &CALLS {
-        call.run(&mut tally, &families::all(times, seed));
+    named::run(&mut tally, CALLS);
+    #[cfg(feature = "weigh")]
+    weigh::run(&mut tally, times, seed);
+    #[cfg(feature = "shrink")]
+    directed::run(&mut tally, times, seed);
+    #[cfg(all(feature = "weigh", feature = "shrink"))]
+    sequence::run(&mut tally, times, seed);
+    for call in CALLS {
+        call.run(&mut tally, times, seed);
     }
     tally.finish()
 }

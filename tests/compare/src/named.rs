@@ -29,7 +29,7 @@ fn run_all(tally: &mut Tally, list: &str, examples: Vec<Example>, calls: &[Call]
 fn run_one(example: &Example, calls: &[Call]) -> Result<String, String> {
     let mut met = Met::default();
     let mut random = Random::new(0);
-    let lent = Lent::bytes(&example.table, &mut random);
+    let lent = Lent::holding(&example.table, &mut random);
     same_answer(face::check(lent.piece()), packed(example.due), &mut met)?;
     for call in calls {
         (call.compare)(&example.table, &mut random, &mut met)

@@ -9,6 +9,7 @@ use crate::weight;
 
 /// What a call comes back with: its done figure or refusal, and what it writes from the start of
 /// the lent room. A refused call writes nothing.
+#[derive(Clone)]
 pub struct Outcome {
     pub answer: Result<usize, Refusal>,
     pub written: Vec<u8>,
@@ -24,12 +25,16 @@ impl Outcome {
 
     /// Done with this figure if `written` fits the room, which is tested last.
     fn done(figure: usize, written: Vec<u8>, room_len: usize) -> Outcome {
-        if written.len() > room_len {
-            return Outcome::refused(Refusal::new(ROOM_TOO_SHORT, written.len()));
-        }
-        Outcome {
-            answer: Ok(figure),
-            written,
+        let answer = Ok(figure);
+        Outcome { answer, written }.in_room(room_len)
+    }
+
+    /// What the same call comes back with in a room of this length and no longer one.
+    pub fn in_room(self, room_len: usize) -> Outcome {
+        if self.written.len() > room_len {
+            Outcome::refused(Refusal::new(ROOM_TOO_SHORT, self.written.len()))
+        } else {
+            self
         }
     }
 }

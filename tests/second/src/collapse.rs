@@ -17,10 +17,19 @@ pub fn collapse_by(table: &Table, direction: Direction, blocks: &[u8]) -> Table 
 
 /// From the first side on, collapses take turns until one merges no states.
 pub fn shrink(table: &Table, first: Direction) -> Table {
+    shrink_by(table, first, passes::coarsest)
+}
+
+/// The same with any way to find the coarsest bisimulation.
+pub fn shrink_by(
+    table: &Table,
+    first: Direction,
+    coarsest: fn(&Table, Direction) -> Vec<u8>,
+) -> Table {
     let mut direction = first;
     let mut table = table.clone();
     loop {
-        let collapsed = collapse(&table, direction);
+        let collapsed = collapse_by(&table, direction, &coarsest(&table, direction));
         let has_merged = collapsed.states() < table.states();
         table = collapsed;
         if !has_merged {
@@ -110,66 +119,24 @@ fn added_up<A: Arithmetic>(alike: &[Transition]) -> Option<Transition> {
 mod tests {
     use super::*;
     use crate::examples;
+    use crate::grow;
     use crate::make;
     use crate::plant;
     use crate::random::Random;
     use crate::table;
     use crate::weight;
 
-    fn collapsed_bytes(bytes: &[u8], direction: Direction) -> Vec<u8> {
-        table::write(&collapse(&table::read(bytes).unwrap(), direction))
-    }
-
     fn weight_of(table: &Table, tree: &[u8]) -> i64 {
         weight::weigh(table, tree, &mut vec![0; tree.len() * table.states()])
     }
 
     #[test]
-    fn p2_and_p3() {
-        assert_eq!(
-            collapsed_bytes(&examples::A, Direction::Backward),
-            examples::A_BACKWARD
-        );
-        assert_eq!(
-            collapsed_bytes(&examples::A, Direction::Forward),
-            examples::A
-        );
-    }
-
-    #[test]
-    fn p5_the_sums_are_7_and_5() {
-        let due = [0, 2, 2, 0, 1, 0, 1, 2, 0, 0, 7, 1, 0, 1, 5];
-        assert_eq!(collapsed_bytes(&examples::B, Direction::Forward), due);
-        assert_eq!(
-            collapsed_bytes(&examples::B, Direction::Backward),
-            examples::B
-        );
-    }
-
-    #[test]
-    fn p6_g_into_block_1_weighs_7() {
-        let due = [1, 2, 2, 0, 1, 0, 1, 2, 0, 0, 7, 1, 0, 1, 15];
-        assert_eq!(collapsed_bytes(&examples::C, Direction::Backward), due);
-    }
-
-    #[test]
-    fn p7_the_g_transition_vanishes() {
-        let due = [0, 2, 2, 0, 1, 0, 1, 1, 0, 0, 1];
-        assert_eq!(collapsed_bytes(&examples::d(), Direction::Forward), due);
-    }
-
-    #[test]
-    fn p9_unchanged_by_both() {
-        for direction in Direction::BOTH {
-            assert_eq!(collapsed_bytes(&examples::NINE, direction), examples::NINE);
+    fn every_example() {
+        for example in examples::collapses() {
+            let table = table::read(&example.table).unwrap();
+            let collapsed = table::write(&collapse(&table, example.direction));
+            assert_eq!(collapsed, example.collapsed, "{}", example.name);
         }
-    }
-
-    #[test]
-    fn examples_4_and_19_of_001() {
-        let due = examples::zigzag_collapsed();
-        assert_eq!(collapse(&examples::zigzag_2(), Direction::Forward), due);
-        assert_eq!(collapse(&examples::zigzag_17(), Direction::Backward), due);
     }
 
     #[test]
@@ -263,7 +230,7 @@ mod tests {
         for _ in 0..500 {
             let start = some_table(&mut random);
             let trees: Vec<Vec<u8>> = (0..8)
-                .filter_map(|_| make::tree(&mut random, &start.ranks, 12))
+                .filter_map(|_| grow::tree(&mut random, &start.ranks, 12))
                 .collect();
             let weights: Vec<i64> = trees.iter().map(|tree| weight_of(&start, tree)).collect();
             let zero = if start.arithmetic == 0 {

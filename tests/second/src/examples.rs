@@ -4,7 +4,9 @@ use crate::answer::{
     Refusal, CODE_IS_ZERO, NOT_ABOVE, NOT_IN_TABLE, NUMBER_BROKEN, OUT_OF_RANGE, TABLE_ENDS,
     TABLE_GOES_ON,
 };
-use crate::table::{Table, Transition};
+use crate::blocks::Direction::{self, Backward, Forward};
+use crate::table::{self, Table, Transition};
+use crate::tree::MOST_NODES;
 
 /// Table A.
 pub const A: [u8; 23] = [
@@ -108,6 +110,115 @@ pub fn zigzag_17() -> Table {
 pub fn zigzag_collapsed() -> Table {
     let nodes = [[1, 2, 0], [2, 0, 1], [2, 2, 0], [2, 2, 1], [2, 2, 2]];
     zigzag(3, &[0], &[0, 1, 2], &nodes)
+}
+
+/// A named table with its blocks and its collapse in one direction, written out and not computed.
+pub struct Collapse {
+    pub name: &'static str,
+    pub table: Vec<u8>,
+    pub direction: Direction,
+    pub blocks: Vec<u8>,
+    pub collapsed: Vec<u8>,
+}
+
+/// The collapses of 01's examples and of source document 001's.
+pub fn collapses() -> Vec<Collapse> {
+    let b_forward = [0, 2, 2, 0, 1, 0, 1, 2, 0, 0, 7, 1, 0, 1, 5];
+    let c_backward = [1, 2, 2, 0, 1, 0, 1, 2, 0, 0, 7, 1, 0, 1, 15];
+    let d_forward = [0, 2, 2, 0, 1, 0, 1, 1, 0, 0, 1];
+    let (two, seventeen) = (table::write(&zigzag_2()), table::write(&zigzag_17()));
+    let four = table::write(&zigzag_collapsed());
+    vec![
+        collapse("P1 and P2", &A, Backward, &[0, 0, 1], &A_BACKWARD),
+        collapse("P3", &A, Forward, &[0, 1, 2], &A),
+        collapse("P5, forward", &B, Forward, &[0, 0, 1], &b_forward),
+        collapse("P5, backward", &B, Backward, &[0, 1, 2], &B),
+        collapse("P6", &C, Backward, &[0, 0, 1], &c_backward),
+        collapse("P7", &d(), Forward, &[0, 1, 1], &d_forward),
+        collapse("P8", &E, Forward, &[0, 1, 2, 3], &E),
+        collapse("P9, backward", &NINE, Backward, &[0], &NINE),
+        collapse("P9, forward", &NINE, Forward, &[0], &NINE),
+        collapse("001, 2 and 4", &two, Forward, &[0, 1, 0, 1, 2], &four),
+        collapse(
+            "001, 17 and 19",
+            &seventeen,
+            Backward,
+            &[0, 1, 2, 2, 2],
+            &four,
+        ),
+    ]
+}
+
+fn collapse(
+    name: &'static str,
+    table: &[u8],
+    direction: Direction,
+    blocks: &[u8],
+    collapsed: &[u8],
+) -> Collapse {
+    Collapse {
+        name,
+        table: table.to_vec(),
+        direction,
+        blocks: blocks.to_vec(),
+        collapsed: collapsed.to_vec(),
+    }
+}
+
+/// g(a) over document 01's symbols.
+pub const G_A: [u8; 2] = [1, 0];
+
+/// A named table with a tree's weight in it, written out and not computed.
+pub struct Weighing {
+    pub name: &'static str,
+    pub table: Vec<u8>,
+    pub tree: Vec<u8>,
+    pub weight: i64,
+}
+
+/// The weights of 01's examples, and the ends of the range of arithmetic 1.
+pub fn weighings() -> Vec<Weighing> {
+    let g_a = |name, table: &[u8], weight| Weighing {
+        name,
+        table: table.to_vec(),
+        tree: G_A.to_vec(),
+        weight,
+    };
+    vec![
+        g_a("P4, in A", &A, 36),
+        g_a("P4, in P2", &A_BACKWARD, 36),
+        g_a("P5", &B, 35),
+        g_a("P6", &C, 10),
+        g_a("P7", &d(), 0),
+        g_a("P9", &NINE, 0),
+        of_one_code("the greatest weight", u32::MAX, 8_798_240_501_759),
+        of_one_code("the least weight", u32::MAX - 1, -8_798_240_501_759),
+    ]
+}
+
+/// The sheet of g(a) in A (P4).
+pub const A_SHEET: [i64; 6] = [0, 0, 36, 3, 3, 0];
+
+/// A chain of 4,096 nodes in a table of one state and arithmetic 1 with one code everywhere.
+fn of_one_code(name: &'static str, code: u32, weight: i64) -> Weighing {
+    let step = |symbol| Transition {
+        symbol,
+        children: [0; 4],
+        target: 0,
+        code,
+    };
+    let table = Table {
+        arithmetic: 1,
+        ranks: vec![0, 1],
+        finals: vec![code],
+        transitions: vec![step(0), step(1)],
+    };
+    Weighing {
+        name,
+        table: table::write(&table),
+        tree: [vec![1; MOST_NODES - 1], vec![0]].concat(),
+        weight,
+    }
 }
 
 /// A named table with the answer of checking it, which is written out and not computed.

@@ -10,6 +10,8 @@ pub mod calls;
 pub mod collapse;
 pub mod damage;
 pub mod examples;
+pub mod families;
+pub mod grow;
 pub mod inspect;
 pub mod make;
 pub mod number;

@@ -163,35 +163,6 @@ pub fn tiny(random: &mut Random) -> Table {
     table(random, &shape)
 }
 
-/// A tree over symbols of these ranks with up to `nodes` nodes and three more. There is none if no
-/// symbol has rank 0.
-pub fn tree(random: &mut Random, ranks: &[u8], nodes: usize) -> Option<Vec<u8>> {
-    let all: Vec<u8> = (0..ranks.len() as u8).collect();
-    let (leaves, inner): (Vec<u8>, Vec<u8>) = all
-        .iter()
-        .partition(|&&symbol| ranks[usize::from(symbol)] == 0);
-    if leaves.is_empty() {
-        return None;
-    }
-    let wanted = random.within(1, nodes);
-    let mut tree = Vec::new();
-    let mut due = 1;
-    while due > 0 {
-        // A leaf for the last node due would end the tree, mostly long before it is large.
-        let choices = if tree.len() + due >= wanted || inner.is_empty() {
-            &leaves
-        } else if due == 1 {
-            &inner
-        } else {
-            &all
-        };
-        let symbol = random.pick(choices);
-        tree.push(symbol);
-        due = due + usize::from(ranks[usize::from(symbol)]) - 1;
-    }
-    Some(tree)
-}
-
 fn ranks(random: &mut Random, least: usize, most: usize) -> Vec<u8> {
     let symbols = random.within(least, most);
     (0..symbols)

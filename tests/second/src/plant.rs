@@ -1,9 +1,9 @@
-//! Tables in which blocks were planted, and deep ones.
+//! Tables in which blocks were planted, ones that a shrink takes turns with, and deep ones.
 
 use std::collections::BTreeMap;
 
 use crate::blocks::{numbered_by_first_use, Direction};
-use crate::make::few_codes;
+use crate::make::{self, few_codes};
 use crate::random::Random;
 use crate::table::{Table, Transition, MOST_RANK, MOST_STATES, MOST_TRANSITIONS};
 use crate::weight::{Arithmetic, MaxPlus};
@@ -114,16 +114,28 @@ fn finals(random: &mut Random, plan: &Plan, blocks: &[u8]) -> Vec<u32> {
 type Choice = (u8, Vec<usize>, usize);
 
 fn transitions(random: &mut Random, plan: &Plan, members: &[Vec<u8>]) -> Vec<Transition> {
-    let mut choices = BTreeMap::<Choice, u32>::new();
+    let mut choices = BTreeMap::new();
     for _ in 0..plan.choices {
         choices.insert(draw_choice(random, plan), draw_sum(random, plan));
     }
+    unfolded(random, plan.direction, plan.arithmetic, members, choices)
+}
+
+/// Transitions that collapse to these choices with these sums.
+fn unfolded(
+    random: &mut Random,
+    direction: Direction,
+    arithmetic: u8,
+    members: &[Vec<u8>],
+    choices: BTreeMap<Choice, u32>,
+) -> Vec<Transition> {
+    let unfold = match direction {
+        Direction::Backward => into_each_target,
+        Direction::Forward => from_each_filling,
+    };
     let mut by_key = BTreeMap::new();
     for (choice, sum) in choices {
-        let added = match plan.direction {
-            Direction::Backward => into_each_target(random, plan, members, &choice, sum),
-            Direction::Forward => from_each_filling(random, plan, members, &choice, sum),
-        };
+        let added = unfold(random, arithmetic, members, &choice, sum);
         if by_key.len() + added.len() <= MOST_TRANSITIONS as usize {
             by_key.extend(
                 added
@@ -155,7 +167,7 @@ fn draw_sum(random: &mut Random, plan: &Plan) -> u32 {
 /// For each target of the block, transitions with children in the child blocks that have the sum.
 fn into_each_target(
     random: &mut Random,
-    plan: &Plan,
+    arithmetic: u8,
     members: &[Vec<u8>],
     (symbol, child_blocks, target_block): &Choice,
     sum: u32,
@@ -168,7 +180,7 @@ fn into_each_target(
                 .map(|&block| random.pick(&members[block]))
                 .collect::<Vec<u8>>()
         });
-        let codes = parts(random, plan.arithmetic, sum, words.len());
+        let codes = parts(random, arithmetic, sum, words.len());
         for (word, code) in words.iter().zip(codes) {
             added.push(transition(*symbol, word, target, code));
         }
@@ -179,7 +191,7 @@ fn into_each_target(
 /// For each filling of the child blocks, transitions into the target block that have the sum.
 fn from_each_filling(
     random: &mut Random,
-    plan: &Plan,
+    arithmetic: u8,
     members: &[Vec<u8>],
     (symbol, child_blocks, target_block): &Choice,
     sum: u32,
@@ -196,7 +208,7 @@ fn from_each_filling(
     let mut added = Vec::new();
     for word in words {
         let targets = one_to_three(random, |random| random.pick(&members[*target_block]));
-        let codes = parts(random, plan.arithmetic, sum, targets.len());
+        let codes = parts(random, arithmetic, sum, targets.len());
         for (&target, code) in targets.iter().zip(codes) {
             added.push(transition(*symbol, &word, target, code));
         }
@@ -260,6 +272,45 @@ fn transition(symbol: u8, word: &[u8], target: u8, code: u32) -> Transition {
     }
 }
 
+/// A table with which a shrink takes turns: one state was parted in two that a collapse merges,
+/// again and again and each time on the other side, so that a merge shows only once the parting
+/// after it is undone. The last parting was on this side.
+pub fn ladder(random: &mut Random, last: Direction) -> Table {
+    let mut table = make::tiny(random);
+    let partings = random.within(1, 6);
+    for left in (0..partings).rev() {
+        let side = if left % 2 == 0 { last } else { last.other() };
+        table = parted(random, &table, side);
+    }
+    table
+}
+
+/// The table with one state more, which the collapse of this direction merges with state 0.
+fn parted(random: &mut Random, table: &Table, direction: Direction) -> Table {
+    let new = table.states() as u8;
+    let mut members: Vec<Vec<u8>> = (0..new).map(|state| vec![state]).collect();
+    members[0].push(new);
+    let as_choice = |t: &Transition| {
+        let children = table.children(t).iter().map(|&child| usize::from(child));
+        let choice = (t.symbol, children.collect(), usize::from(t.target));
+        (choice, t.code)
+    };
+    let choices = table.transitions.iter().map(as_choice).collect();
+    let mut finals = table.finals.clone();
+    let shared = match direction {
+        Direction::Backward => parts(random, table.arithmetic, finals[0], 2),
+        Direction::Forward => vec![finals[0]; 2],
+    };
+    finals[0] = shared[0];
+    finals.push(shared[1]);
+    Table {
+        arithmetic: table.arithmetic,
+        ranks: table.ranks.clone(),
+        finals,
+        transitions: unfolded(random, direction, table.arithmetic, &members, choices),
+    }
+}
+
 /// So many chains side by side, all of weight 1: each begins with the symbol of rank 0 and goes up
 /// by that of rank 1, and its last state is final. State numbers go up level by level.
 fn chains(levels: usize, chains: usize) -> Table {
@@ -296,4 +347,29 @@ pub fn parted_chains(levels: usize, direction: Direction) -> Table {
         Direction::Forward => table.finals[2 * levels - 1] = 2,
     }
     table
+}
+
+#[cfg(test)]
+mod tests {
+    use super::*;
+    use crate::collapse::collapse;
+
+    /// How many collapses of a shrink from this side merge states.
+    fn turns(table: &Table, first: Direction) -> usize {
+        let collapsed = collapse(table, first);
+        if collapsed.states() == table.states() {
+            0
+        } else {
+            1 + turns(&collapsed, first.other())
+        }
+    }
+
+    #[test]
+    fn ladders_take_turns() {
+        let mut random = Random::new(16);
+        for last in Direction::BOTH {
+            let many = (0..200).filter(|_| turns(&ladder(&mut random, last), last) >= 3);
+            assert!(many.count() >= 20);
+        }
+    }
 }

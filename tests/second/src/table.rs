@@ -125,9 +125,7 @@ fn read_transition(cursor: &mut Cursor, table: &Table) -> Result<Transition, Ref
 /// The one written form of a table.
 pub fn write(table: &Table) -> Vec<u8> {
     let mut bytes = Vec::new();
-    for (_, value) in numbers(table) {
-        number::write(&mut bytes, value);
-    }
+    each_number(table, |_, value| number::write(&mut bytes, value));
     bytes
 }
 
@@ -148,27 +146,33 @@ pub enum Role {
 
 /// The numbers of a table in the order in which they are written.
 pub fn numbers(table: &Table) -> Vec<(Role, u32)> {
-    let mut numbers = vec![
-        (Role::Arithmetic, u32::from(table.arithmetic)),
-        (Role::States, table.finals.len() as u32),
-        (Role::Symbols, table.ranks.len() as u32),
-    ];
-    numbers.extend(
-        table
-            .ranks
-            .iter()
-            .map(|&rank| (Role::Rank, u32::from(rank))),
-    );
-    numbers.extend(table.finals.iter().map(|&code| (Role::Final, code)));
-    numbers.push((Role::Transitions, table.transitions.len() as u32));
-    for transition in &table.transitions {
-        numbers.push((Role::Symbol, u32::from(transition.symbol)));
-        let children = table.children(transition).iter();
-        numbers.extend(children.map(|&child| (Role::Child, u32::from(child))));
-        numbers.push((Role::Target, u32::from(transition.target)));
-        numbers.push((Role::Code, transition.code));
-    }
+    let mut numbers = Vec::new();
+    each_number(table, |role, value| numbers.push((role, value)));
     numbers
+}
+
+/// Hands over the numbers of a table one by one: a list of them all would cost the writer more than
+/// the writing.
+#[inline]
+fn each_number(table: &Table, mut take: impl FnMut(Role, u32)) {
+    take(Role::Arithmetic, u32::from(table.arithmetic));
+    take(Role::States, table.finals.len() as u32);
+    take(Role::Symbols, table.ranks.len() as u32);
+    for &rank in &table.ranks {
+        take(Role::Rank, u32::from(rank));
+    }
+    for &code in &table.finals {
+        take(Role::Final, code);
+    }
+    take(Role::Transitions, table.transitions.len() as u32);
+    for transition in &table.transitions {
+        take(Role::Symbol, u32::from(transition.symbol));
+        for &child in table.children(transition) {
+            take(Role::Child, u32::from(child));
+        }
+        take(Role::Target, u32::from(transition.target));
+        take(Role::Code, transition.code);
+    }
 }
 
 #[cfg(test)]

@@ -169,6 +169,7 @@ pub fn symbol_starts(table: &Table) -> Vec<usize> {
 mod tests {
     use super::*;
     use crate::examples;
+    use crate::grow;
     use crate::make;
     use crate::random::Random;
     use crate::table;
@@ -179,26 +180,19 @@ mod tests {
         (sheet, weight)
     }
 
-    /// g(a) in the tables of document 01.
-    const G_A: [u8; 2] = [1, 0];
-
-    fn weight_of_g_a(bytes: &[u8]) -> i64 {
-        weighed(&table::read(bytes).unwrap(), &G_A).1
+    #[test]
+    fn every_example() {
+        for example in examples::weighings() {
+            let table = table::read(&example.table).unwrap();
+            let (_, weight) = weighed(&table, &example.tree);
+            assert_eq!(weight, example.weight, "{}", example.name);
+        }
     }
 
     #[test]
-    fn p4_g_a_weighs_36_and_the_sheet() {
+    fn p4_the_sheet() {
         let a = table::read(&examples::A).unwrap();
-        assert_eq!(weighed(&a, &G_A), (vec![0, 0, 36, 3, 3, 0], 36));
-        assert_eq!(weight_of_g_a(&examples::A_BACKWARD), 36);
-    }
-
-    #[test]
-    fn g_a_in_p5_p6_p7_and_p9() {
-        assert_eq!(weight_of_g_a(&examples::B), 35);
-        assert_eq!(weight_of_g_a(&examples::C), 10);
-        assert_eq!(weight_of_g_a(&examples::d()), 0);
-        assert_eq!(weight_of_g_a(&examples::NINE), 0);
+        assert_eq!(weighed(&a, &examples::G_A).0, examples::A_SHEET);
     }
 
     #[test]
@@ -267,7 +261,7 @@ mod tests {
     fn examples_2_and_17_of_001_recognise_zigzag() {
         let mut random = Random::new(6);
         for _ in 0..300 {
-            let tree = make::tree(&mut random, &[0, 2], 60).unwrap();
+            let tree = grow::tree(&mut random, &[0, 2], 60).unwrap();
             for automaton in [examples::zigzag_2(), examples::zigzag_17()] {
                 assert_eq!(weighed(&automaton, &tree).1, zigzag(&tree, 0));
             }
@@ -306,27 +300,12 @@ mod tests {
         let mut compared = 0;
         while compared < 300 {
             let table = make::tiny(&mut random);
-            let Some(tree) = make::tree(&mut random, &table.ranks, 5) else {
+            let Some(tree) = grow::tree(&mut random, &table.ranks, 5) else {
                 continue;
             };
             let due = in_arithmetic_of!(table, by_readings(&table, &tree));
             assert_eq!(weighed(&table, &tree).1, due);
             compared += 1;
-        }
-    }
-
-    #[test]
-    fn the_ends_of_the_range_of_arithmetic_1() {
-        let mut chain = vec![1; 4_096];
-        chain[4_095] = 0;
-        for (code, due) in [
-            (4_294_967_295, 8_798_240_501_759),
-            (4_294_967_294, -8_798_240_501_759),
-        ] {
-            let mut table = table::read(&[1, 1, 2, 0, 1, 1, 2, 0, 0, 1, 1, 0, 0, 1]).unwrap();
-            table.finals[0] = code;
-            table.transitions.iter_mut().for_each(|t| t.code = code);
-            assert_eq!(weighed(&table, &chain).1, due);
         }
     }
 }

@@ -76,38 +76,13 @@ mod tests {
         blocks
     }
 
-    fn blocks_of(bytes: &[u8], direction: Direction) -> Vec<u8> {
-        agreed(&table::read(bytes).unwrap(), direction)
-    }
-
     #[test]
-    fn p1_p3_p5_and_p6() {
-        assert_eq!(blocks_of(&examples::A, Direction::Backward), [0, 0, 1]);
-        assert_eq!(blocks_of(&examples::A, Direction::Forward), [0, 1, 2]);
-        assert_eq!(blocks_of(&examples::B, Direction::Forward), [0, 0, 1]);
-        assert_eq!(blocks_of(&examples::B, Direction::Backward), [0, 1, 2]);
-        assert_eq!(blocks_of(&examples::C, Direction::Backward), [0, 0, 1]);
-    }
-
-    #[test]
-    fn p7_p8_and_p9() {
-        assert_eq!(blocks_of(&examples::d(), Direction::Forward), [0, 1, 1]);
-        assert_eq!(blocks_of(&examples::E, Direction::Forward), [0, 1, 2, 3]);
-        for direction in Direction::BOTH {
-            assert_eq!(blocks_of(&examples::NINE, direction), [0]);
+    fn every_example() {
+        for example in examples::collapses() {
+            let table = table::read(&example.table).unwrap();
+            let blocks = agreed(&table, example.direction);
+            assert_eq!(blocks, example.blocks, "{}", example.name);
         }
-    }
-
-    #[test]
-    fn examples_2_and_17_of_001() {
-        assert_eq!(
-            agreed(&examples::zigzag_2(), Direction::Forward),
-            [0, 1, 0, 1, 2]
-        );
-        assert_eq!(
-            agreed(&examples::zigzag_17(), Direction::Backward),
-            [0, 1, 2, 2, 2]
-        );
     }
 
     #[test]

@@ -1,5 +1,10 @@
 //! What is timed: a call of the library, the same work in plain Rust, and an input.
 
+#[cfg(feature = "shrink")]
+mod directed;
+#[cfg(feature = "weigh")]
+mod weigh;
+
 use std::hint::black_box;
 
 use second::examples;
@@ -20,6 +25,17 @@ pub struct Case {
 }
 
 pub fn all() -> Vec<Case> {
+    let groups = [
+        checks(),
+        #[cfg(feature = "weigh")]
+        weigh::all(),
+        #[cfg(feature = "shrink")]
+        directed::all(),
+    ];
+    groups.into_iter().flatten().collect()
+}
+
+fn checks() -> Vec<Case> {
     tables()
         .into_iter()
         .map(|(input, table)| check(input, table))

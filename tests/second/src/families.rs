@@ -1,11 +1,13 @@
 //! Families of inputs: tables of every kind, whole and damaged.
 
-use second::damage::{self, DAMAGES};
-use second::examples;
-use second::make::{self, KINDS};
-use second::number;
-use second::random::Random;
-use second::table::{self, Table};
+use crate::blocks::Direction;
+use crate::damage::{self, DAMAGES};
+use crate::examples;
+use crate::make::{self, KINDS};
+use crate::number;
+use crate::plant;
+use crate::random::Random;
+use crate::table::{self, Table};
 
 type Inputs = Box<dyn Iterator<Item = Vec<u8>>>;
 
@@ -45,32 +47,79 @@ impl Family {
     }
 }
 
+/// Tables of every kind, whole and damaged.
 pub fn all(times: usize, seed: u64) -> Vec<Family> {
-    let mut families = vec![
-        Family::listed("every way to change one byte of A", a_with_one_byte_changed),
-        Family::listed("A cut at every length", a_cut),
+    let mut families = of_a();
+    families.extend([
         Family::listed("every table of at most two bytes", at_most_two_bytes),
         Family::listed("every spelling of one number", every_spelling),
-    ];
+    ]);
+    families.extend(of_every_kind(500 * times, 15 * times, seed));
+    families
+}
+
+/// Tables of every kind, and those on which the directions matter. The second program goes over a
+/// table again and again for these, so that there are fewer heavy ones and none that no direction
+/// ever gets to.
+pub fn for_directions(times: usize, seed: u64) -> Vec<Family> {
+    let mut families = of_a();
+    families.extend(of_every_kind(250 * times, 4 * times, seed));
+    let seeds = &mut (seed.wrapping_add(1_000)..);
+    let mut random_family = |name: &str, count, one: fn(&mut Random) -> Table| {
+        let seed = seeds.next().expect("there are enough seeds");
+        Family::random(name.to_string(), count * times, seed, move |random| {
+            table::write(&one(random))
+        })
+    };
+    families.extend([
+        random_family("tiny", 400, make::tiny),
+        random_family("planted backward", 200, planted_backward),
+        random_family("planted forward", 200, planted_forward),
+        random_family("planted, then one code changed", 200, nearly_planted),
+        random_family("parted on both sides in turn", 200, |random| {
+            let last = random.pick(&Direction::BOTH);
+            plant::ladder(random, last)
+        }),
+        random_family("many merges backward", 2, |random| {
+            plant::many_merges(random, Direction::Backward).table
+        }),
+        random_family("many merges forward", 2, |random| {
+            plant::many_merges(random, Direction::Forward).table
+        }),
+        Family::listed("a difference 250 levels away", chains),
+    ]);
+    families
+}
+
+fn of_a() -> Vec<Family> {
+    vec![
+        Family::listed("every way to change one byte of A", a_with_one_byte_changed),
+        Family::listed("A cut at every length", a_cut),
+    ]
+}
+
+/// Tables of every kind, whole and damaged, so many of a light kind and of one that isn't.
+fn of_every_kind(light: usize, heavy: usize, seed: u64) -> Vec<Family> {
+    let mut families = Vec::new();
     let seeds = &mut (seed..);
     let mut next_seed = || seeds.next().expect("there are enough seeds");
     for kind in &KINDS {
         let name = format!("valid, {}", kind.name);
-        let count = times * if kind.light { 500 } else { 15 };
+        let count = if kind.light { light } else { heavy };
         families.push(Family::random(name, count, next_seed(), |random| {
             table::write(&(kind.make)(random))
         }));
     }
     for damage in &DAMAGES {
         let name = format!("damaged, {}", damage.name);
-        families.push(Family::random(name, 500 * times, next_seed(), |random| {
+        families.push(Family::random(name, light, next_seed(), |random| {
             let table = some_table(random);
             damage.apply(random, &table)
         }));
     }
     families.push(Family::random(
         "damaged, several damages".to_string(),
-        4_000 * times,
+        8 * light,
         next_seed(),
         |random| {
             let table = some_table(random);
@@ -79,13 +128,13 @@ pub fn all(times: usize, seed: u64) -> Vec<Family> {
     ));
     families.push(Family::random(
         "random bytes".to_string(),
-        2_000 * times,
+        4 * light,
         next_seed(),
         random_bytes,
     ));
     families.push(Family::random(
         "random small bytes".to_string(),
-        20_000 * times,
+        40 * light,
         next_seed(),
         random_small_bytes,
     ));
@@ -99,6 +148,48 @@ fn some_table(random: &mut Random) -> Table {
         1..=9 => make::middle(random),
         _ => make::small(random),
     }
+}
+
+fn planted_backward(random: &mut Random) -> Table {
+    plant::some(random, Direction::Backward).table
+}
+
+fn planted_forward(random: &mut Random) -> Table {
+    plant::some(random, Direction::Forward).table
+}
+
+/// A planted table in which one code was changed, so that states which nearly share a block do not.
+fn nearly_planted(random: &mut Random) -> Table {
+    let direction = random.pick(&Direction::BOTH);
+    let mut table = plant::some(random, direction).table;
+    let code = make::few_codes(random);
+    if table.transitions.is_empty() || random.one_in(4) {
+        let state = random.below(table.states());
+        table.finals[state] = code;
+    } else {
+        let at = random.below(table.transitions.len());
+        table.transitions[at].code = code;
+    }
+    table
+}
+
+/// Chains of both arithmetics, in which code 1 is one and zero's neighbour.
+fn chains() -> Inputs {
+    let tables = [
+        plant::chain(250),
+        plant::chain(256),
+        plant::twin_chains(125),
+        plant::parted_chains(125, Direction::Backward),
+        plant::parted_chains(125, Direction::Forward),
+    ];
+    Box::new(tables.into_iter().flat_map(|table| {
+        [0, 1].map(|arithmetic| {
+            table::write(&Table {
+                arithmetic,
+                ..table.clone()
+            })
+        })
+    }))
 }
 
 fn random_bytes(random: &mut Random) -> Vec<u8> {

@@ -1,0 +1,12 @@
+pub mod Agreeing
+pub mod Ascent
+pub mod Children
+pub mod Digits
+pub mod Gathering
+pub mod Naming
+pub mod Packing
+pub mod Sides
+pub mod Sums
+pub mod Totals
+pub mod Unpacking
+pub mod Whole

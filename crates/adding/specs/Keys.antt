@@ -1,0 +1,31 @@
+-- Keys as numbers: the symbol and the blocks of a transition, packed into one.
+use Prim.Native.Nat.{ℕ, zero, suc, _+_, _*_, _/_, _%_}
+use mathlib.Core.List.{List, [], _∷_, _++_}
+use lib.ListN.{getD}
+use Rattle.model.specs.Table.{Transition}
+use Rattle.profiles.specs.Entries.{Entry}
+
+-- the numbers xs behind n, eight bits each
+abbrev pub packed : ℕ → List ℕ → ℕ
+packed n [] = n
+packed n (x ∷ xs) = packed (n * 256 + x) xs
+
+-- a key as one number: the symbol stands above 40 bits for the children's blocks and the target's
+abbrev pub pack : List ℕ → ℕ
+pack [] = 0
+pack (σ ∷ Ds) = σ * 1099511627776 + packed 0 Ds
+
+-- the last k numbers of eight bits
+abbrev pub digits : ℕ → ℕ → List ℕ
+digits zero n = []
+digits (suc k) n = digits k (n / 256) ++ (n % 256 ∷ [])
+
+-- the transition that an entry is, over these ranks
+abbrev pub transitionOf : List ℕ → Entry → Transition
+transitionOf ranks e =
+    record {
+        symbol = e .key / 1099511627776;
+        children = digits (getD ranks (e .key / 1099511627776) 0) (e .key / 256);
+        target = e .key % 256;
+        code = e .code
+    }

@@ -1,0 +1,5 @@
+pub mod Keys
+pub mod Named
+pub mod Finals
+pub mod Rows
+pub mod Collapsing

@@ -1,0 +1,4 @@
+mod Reordering
+mod Insertion
+mod Comparison
+mod Adding

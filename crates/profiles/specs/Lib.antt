@@ -1,0 +1,4 @@
+pub mod Entries
+pub mod Kept
+pub mod Sums
+pub mod Sorting

@@ -1,0 +1,14 @@
+pub mod Bounds
+pub mod Multiplying
+pub mod Replacing
+pub mod Sums
+pub mod Adding
+pub mod Totalling
+pub mod Transitions
+pub mod Sheets
+pub mod Products
+pub mod Weights
+pub mod Filling
+pub mod Node
+pub mod Root
+pub mod Cases
