@@ -1,4 +1,4 @@
-/* A small ranker's first step: check a grammar before it is used, and say what is wrong with it. */
+/* A small ranker: check a grammar before it is used, say what is wrong with it, and weigh a tree by it. */
 #include <inttypes.h>
 #include <stdio.h>
 #include <string.h>
@@ -23,6 +23,9 @@ int main(void)
 {
     uint8_t damaged[sizeof table_a];
     uint8_t room[PERISTHOX_TABLE_MAX];
+    const uint8_t tree[] = {1, 0}; /* g(a) */
+    int64_t sheet[2 * 3];
+    int64_t weight;
     uint64_t answer;
 
     report("A", table_a, sizeof table_a);
@@ -38,5 +41,12 @@ int main(void)
         return 1;
     }
     printf("A written again: the same %" PRIu32 " bytes\n", PERISTHOX_FIGURE(answer));
+
+    answer = peristhox_weigh(table_a, sizeof table_a, tree, sizeof tree, sheet, sizeof sheet / sizeof sheet[0], &weight);
+    if (PERISTHOX_CODE(answer) != PERISTHOX_DONE) {
+        printf("g(a): refused %" PRIu32 " at %" PRIu32 "\n", PERISTHOX_CODE(answer), PERISTHOX_FIGURE(answer));
+        return 1;
+    }
+    printf("g(a): %" PRIu32 " nodes, weight %" PRId64 "\n", PERISTHOX_FIGURE(answer), weight);
     return 0;
 }

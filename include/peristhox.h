@@ -1,5 +1,5 @@
 /*
- * Peristhox: weighted tree automata as tables of bytes, checked and written again, every call proved.
+ * Peristhox: weighted tree automata as tables of bytes: checked, written again, used to weigh trees. Every call is proved.
  *
  * Each call gives back code times 2^32 plus figure: PERISTHOX_CODE and PERISTHOX_FIGURE take the two apart. Code 0 is "done".
  * Under any other code the call has changed no lent memory. Nothing is kept between calls, nothing is allocated, and a call may
@@ -33,6 +33,10 @@ extern "C" {
 #define PERISTHOX_ZERO_CODE 5       /* a transition's code is 0: the number's first byte */
 #define PERISTHOX_NOT_ABOVE 6       /* a transition isn't above the one before: the transition's first byte */
 #define PERISTHOX_TABLE_GOES_ON 7   /* bytes follow the last transition: the first of them */
+#define PERISTHOX_TREE_ENDS 8       /* the tree ends while a node is due: the tree's length */
+#define PERISTHOX_UNKNOWN_SYMBOL 9  /* a node's symbol isn't in the table: its offset */
+#define PERISTHOX_TREE_GOES_ON 10   /* bytes follow a finished tree: the first of them */
+#define PERISTHOX_TREE_TOO_LONG 11  /* a node is due and there is a byte at offset 4,096: 4,096 */
 #define PERISTHOX_ROOM_TOO_SHORT 12 /* the lent room is too short: the room needed */
 
 /* The greatest sizes. */
@@ -41,6 +45,8 @@ extern "C" {
 #define PERISTHOX_SYMBOLS_MAX 128
 #define PERISTHOX_RANK_MAX 4
 #define PERISTHOX_TRANSITIONS_MAX 4000
+#define PERISTHOX_NODES_MAX 4096    /* nodes of a tree, one byte each */
+#define PERISTHOX_NOTHING INT64_MIN /* in a sheet and as a weight: "nothing", which is below every number */
 #define PERISTHOX_STACK 262144      /* bytes of stack that are enough for every call */
 
 /* Whether the bytes are a table. Done: the number of its states. */
@@ -51,6 +57,14 @@ uint64_t peristhox_check(const uint8_t *table, size_t table_len);
  * the room behind it stays as it was.
  */
 uint64_t peristhox_rewrite(const uint8_t *table, size_t table_len, uint8_t *room, size_t room_len);
+
+/*
+ * Weighs a tree (one byte a node, the symbol, in prefix order) by a table. Done: the number of nodes. The sheet then holds at
+ * node * states + state the weight of the node's subtree at that state, and *weight the tree's weight; the sheet behind that stays
+ * as it was. The room needed is nodes times states numbers. *weight is written only under code 0.
+ */
+uint64_t peristhox_weigh(const uint8_t *table, size_t table_len, const uint8_t *tree, size_t tree_len,
+                         int64_t *sheet, size_t sheet_len, int64_t *weight);
 
 #ifdef __cplusplus
 }

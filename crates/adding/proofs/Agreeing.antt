@@ -22,7 +22,7 @@ module _ (b c r : ℕ → ℕ) (d : Direction) (n : ℕ) (same : (q : ℕ) → q
   entry-same : (t : Transition) → Between n t → entryOf b t ≡ entryOf c t
   entry-same t (lqs, lq) =
       let e : pack (keyAt (t .symbol) (map b (t .children)) (b (t .target))) ≡ pack (keyAt (t .symbol) (map c (t .children)) (c (t .target))) =
-          ap₂ (λ (Ds : List ℕ) (D : ℕ). pack (keyAt (t .symbol) Ds D)) (map-each (λ q. q < n) b c same (t .children) lqs) (same (t .target) lq) in
+      ap₂ (λ (Ds : List ℕ) (D : ℕ). pack (keyAt (t .symbol) Ds D)) (map-each (λ q. q < n) b c same (t .children) lqs) (same (t .target) lq) in
       λ i. record { key = e i; code = t .code }
 
   counts-same : (s : Direction) (t : Transition) → Between n t → counted b r s t ≡ counted c r s t

@@ -42,8 +42,8 @@ module _ (n from rank : ℕ) (before : List ℕ) where
             let behind : suc (from + (k - 1)) ≡ from + k = omega arith in
             let inside : from + (k - 1) < length array = omega arith in
             let opened : drop (from + (k - 1)) (set array (from + (k - 1)) y) ≡ y ∷ drop (from + k) array =
-                drop-cons (set array (from + (k - 1)) y) (from + (k - 1)) 0 (omega (arith, length-set array (from + (k - 1)) y))
-                ∙ ap₂ _∷_ (getD-set-same array (from + (k - 1)) y 0 inside) (drop-set-lt (suc (from + (k - 1))) array (from + (k - 1)) y (omega arith) ∙ ap (λ (i : ℕ). drop i array) behind) in
+            drop-cons (set array (from + (k - 1)) y) (from + (k - 1)) 0 (omega (arith, length-set array (from + (k - 1)) y))
+            ∙ ap₂ _∷_ (getD-set-same array (from + (k - 1)) y 0 inside) (drop-set-lt (suc (from + (k - 1))) array (from + (k - 1)) y (omega arith) ∙ ap (λ (i : ℕ). drop i array) behind) in
             rw (one-more, opened)
 
     pub parting-ends : k ≤ 0 → DigitsPut n from rank before array

@@ -55,8 +55,8 @@ module _ (b r : ℕ → ℕ) (d : Direction) (c : Columns) (count : ℕ) where
     gathering-takes more fits e key code k w =
         let few = so-far .few in
         let put : entries (set keys many key) (set codes many code) 0 (many + 1) ≡ entries keys codes 0 many ++ (entryOf b (rowAt c j) ∷ []) =
-            entries-put keys codes many key code 0 (omega arith) (omega (arith, so-far .keys-long)) (omega (arith, so-far .codes-long))
-            ∙ ap₂ (λ (x y : ℕ). entries keys codes 0 many ++ (record { key = x; code = y } ∷ [])) k w in
+        entries-put keys codes many key code 0 (omega arith) (omega (arith, so-far .keys-long)) (omega (arith, so-far .codes-long))
+        ∙ ap₂ (λ (x y : ℕ). entries keys codes 0 many ++ (record { key = x; code = y } ∷ [])) k w in
         record {
           some = omega arith;
           few = omega arith;

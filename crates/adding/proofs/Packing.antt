@@ -90,5 +90,5 @@ module _ (ranks : List ℕ) (t : Transition) (fits : Packable ranks t) where
       ≡ record { symbol = t .symbol; children = t .children; target = t .target; code = code }
   pack-unpacked code =
       let children : digits (getD ranks (pack (key t) / 1099511627776) 0) (pack (key t) / 256) ≡ t .children =
-          rw (pack-symbol, ← fits .children-many, pack-children) (digits-packed (t .symbol) (t .children) (fits .children-bytes) few-children) in
+      rw (pack-symbol, ← fits .children-many, pack-children) (digits-packed (t .symbol) (t .children) (fits .children-bytes) few-children) in
       λ i. record { symbol = pack-symbol i; children = children i; target = pack-target i; code = code }

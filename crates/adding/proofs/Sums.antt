@@ -89,7 +89,7 @@ module _ (X : Table) (b r : ℕ → ℕ) (d : Direction) where
       go true e ih = ap₂ (S .plus) (ap (λ (c : Bool). only S (eqb (pack (blockKey b t)) j) (only S c (meaning a (t .code)))) e) ih
       go false e ih = ih ∙ sym (zero-plus S _)
           ∙ ap (λ (w : Weight a). S .plus w (keySum S numbers ts (λ t. pack (blockKey b t)) (namedWeight X b r d) j))
-            (sym (only-zero S (eqb (pack (blockKey b t)) j)) ∙ ap (λ (c : Bool). only S (eqb (pack (blockKey b t)) j) (only S c (meaning a (t .code)))) e)
+          (sym (only-zero S (eqb (pack (blockKey b t)) j)) ∙ ap (λ (c : Bool). only S (eqb (pack (blockKey b t)) j) (only S c (meaning a (t .code)))) e)
 
   -- Entries that are added up, with the sums of the table.
   module _ (ranks : List ℕ) (fit : Each (λ t. Packable ranks (blocked b t)) (X .transitions)) (es : List Entry) (added : Summed es)
@@ -126,7 +126,7 @@ module _ (X : Table) (b r : ℕ → ℕ) (d : Direction) where
         sum-map S (transitionOf ranks) es (λ t. only S (sameList (key t) k) (meaning a (t .code)))
         ∙ keySums-through S numbers lists unpacked es (λ e. e .key) (λ e. meaning a (e .code)) (X .transitions) (λ t. pack (blockKey b t)) (namedWeight X b r d) sum-same-key k
         ∙ sum-each S (λ t. Packable ranks (blocked b t)) (X .transitions) fit _ _ (λ t f.
-          ap (λ (l : List ℕ). only S (sameList l k) (namedWeight X b r d t)) (ap key (pack-unpacked ranks (blocked b t) f 0)))
+        ap (λ (l : List ℕ). only S (sameList l k) (namedWeight X b r d t)) (ap key (pack-unpacked ranks (blocked b t) f 0)))
       where
         unpacked : ℕ → List ℕ
         unpacked n = key (transitionOf ranks (record { key = n; code = 0 }))

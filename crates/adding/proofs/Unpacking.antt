@@ -23,7 +23,7 @@ module _ (ranks symbol children stored target code : List ℕ) (i key weight : �
   row-put =
       let own : getD (set symbol i σ) i 0 ≡ σ = getD-set-same symbol i σ 0 (omega (arith, long .symbol)) in
       let kids : take (getD ranks (getD (set symbol i σ) i 0) 0) (drop (i * 4) stored) ≡ digits (getD ranks (key / 1099511627776) 0) (key / 256) =
-          ap (λ (τ : ℕ). take (getD ranks τ 0) (drop (i * 4) stored)) own ∙ put .put ∙ ap (λ (τ : ℕ). digits (getD ranks τ 0) (key / 256)) is-symbol in
+      ap (λ (τ : ℕ). take (getD ranks τ 0) (drop (i * 4) stored)) own ∙ put .put ∙ ap (λ (τ : ℕ). digits (getD ranks τ 0) (key / 256)) is-symbol in
       let symbol-is : getD (set symbol i σ) i 0 ≡ key / 1099511627776 = own ∙ is-symbol in
       let target-is : getD (set target i D) i 0 ≡ key % 256 = getD-set-same target i D 0 (omega (arith, long .target)) ∙ is-target in
       let code-is : getD (set code i weight) i 0 ≡ weight = getD-set-same code i weight 0 (omega (arith, long .code)) in
@@ -65,9 +65,13 @@ module _ (before columns : Columns) (j : ℕ) (kept : Kept j before columns) (i 
 
   row-same : rowAt columns i ≡ rowAt before i
   row-same =
-      rw (kept .ranks, same-at (columns .symbol) (before .symbol) (kept .symbol),
-          same-part (getD (before .ranks) (getD (before .symbol) i 0) 0) small,
-          same-at (columns .target) (before .target) (kept .target), same-at (columns .code) (before .code) (kept .code))
+      rw (
+        kept .ranks,
+        same-at (columns .symbol) (before .symbol) (kept .symbol),
+        same-part (getD (before .ranks) (getD (before .symbol) i 0) 0) small,
+        same-at (columns .target) (before .target) (kept .target),
+        same-at (columns .code) (before .code) (kept .code),
+      )
 
 module _ (count : ℕ) (keys codes ranks : List ℕ) where
   -- entry k is transition k

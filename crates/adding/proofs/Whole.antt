@@ -97,12 +97,15 @@ module _ (d : Direction) (r : TableRecord) (blocks : List ℕ) (number : ℕ) (g
   packable = each-implies (ProperTransition (X .ranks) (X .states)) (λ t. Packable (r .ranks) (blocked b t)) packable-one (X .transitions) (given .proper .transitions-proper)
 
   pub readable : Rows (r .ranks) (r .symbol) (r .count)
-  readable = (few-transitions, λ j l.
-      let c : Columns = columns (r .ranks) (r .symbol) (r .children) (r .target) (r .code) in
-      let p : ProperTransition (X .ranks) (X .states) (rowAt c j) =
-          subst (λ (i : ℕ). ProperTransition (X .ranks) (X .states) (rowAt c i)) (zero-add j)
-          (row-of (ProperTransition (X .ranks) (X .states)) c 0 (r .count) (given .proper .transitions-proper) j l) in
-      record { inside = omega (arith, few-transitions); known = symbol-few (rowAt c j) p; rank-small = rank-few (rowAt c j) p })
+  readable = (
+    few-transitions,
+    λ j l.
+        let c : Columns = columns (r .ranks) (r .symbol) (r .children) (r .target) (r .code) in
+        let p : ProperTransition (X .ranks) (X .states) (rowAt c j) =
+        subst (λ (i : ℕ). ProperTransition (X .ranks) (X .states) (rowAt c i)) (zero-add j)
+        (row-of (ProperTransition (X .ranks) (X .states)) c 0 (r .count) (given .proper .transitions-proper) j l) in
+        record { inside = omega (arith, few-transitions); known = symbol-few (rowAt c j) p; rank-small = rank-few (rowAt c j) p },
+  )
 
   module _ (names : List ℕ) (greatest : Greatest (blockOf blocks) (r .states) names) where
     abbrev n : ℕ → ℕ

@@ -24,8 +24,8 @@ digits (suc k) n = digits k (n / 256) ++ (n % 256 ∷ [])
 abbrev pub transitionOf : List ℕ → Entry → Transition
 transitionOf ranks e =
     record {
-        symbol = e .key / 1099511627776;
-        children = digits (getD ranks (e .key / 1099511627776) 0) (e .key / 256);
-        target = e .key % 256;
-        code = e .code
+      symbol = e .key / 1099511627776;
+      children = digits (getD ranks (e .key / 1099511627776) 0) (e .key / 256);
+      target = e .key % 256;
+      code = e .code;
     }

@@ -2,9 +2,9 @@
 // the keys of their blocks.
 
 use profiles::SYMBOL;
-use states::{Block, State};
+use states::Block;
+use states::State;
 use tables::TableRecord;
-
 ghost use mathlib.Core.Path.{_≡_};
 ghost use Prim.Native.Nat.{ℕ, _+_, _*_, _≤_, _<_};
 ghost use mathlib.Core.List.{[]};
@@ -31,18 +31,58 @@ pub fn add_up(direction: u32, table: TableRecord, blocks: &[u8; 256], number: us
     let arithmetic = table.arithmetic;
     let states = table.states;
     let names = name_members(states, blocks);
-    let finals = final_codes(direction, arithmetic, states, number, &table.finals, blocks, &names);
+    let finals = final_codes(
+        direction,
+        arithmetic,
+        states,
+        number,
+        &table.finals,
+        blocks,
+        &names,
+    );
     let mut keys = [0u64; 16000];
     let mut codes = [0u32; 16000];
-    let many = gather(direction, table.count, &table.ranks, &table.symbol, &table.children, &table.target, &table.code, blocks, &names, &mut keys, &mut codes);
+    let many = gather(
+        direction,
+        table.count,
+        &table.ranks,
+        &table.symbol,
+        &table.children,
+        &table.target,
+        &table.code,
+        blocks,
+        &names,
+        &mut keys,
+        &mut codes,
+    );
     let count = profiles::sum_up(arithmetic, &mut keys, &mut codes, 0, many);
     let mut symbol = [0u8; 4000];
     let mut children = [0u8; 16000];
     let mut target = [0u8; 4000];
     let mut code = [0u32; 4000];
-    unpack_all(count, &table.ranks, &keys, &codes, &mut symbol, &mut children, &mut target, &mut code);
+    unpack_all(
+        count,
+        &table.ranks,
+        &keys,
+        &codes,
+        &mut symbol,
+        &mut children,
+        &mut target,
+        &mut code,
+    );
     let ranks = table.ranks;
-    TableRecord { arithmetic, states: number, symbols: table.symbols, count, ranks, finals, symbol, children, target, code }
+    TableRecord {
+        arithmetic,
+        states: number,
+        symbols: table.symbols,
+        count,
+        ranks,
+        finals,
+        symbol,
+        children,
+        target,
+        code,
+    }
 }
 
 fn wide(byte: u8) -> usize
@@ -90,7 +130,15 @@ fn name_members(states: usize, blocks: &[u8; 256]) -> [u8; 256]
 }
 
 // The final code of each block.
-fn final_codes(direction: u32, arithmetic: u32, states: usize, number: usize, finals: &[u32; 256], blocks: &[u8; 256], names: &[u8; 256]) -> [u32; 256]
+fn final_codes(
+    direction: u32,
+    arithmetic: u32,
+    states: usize,
+    number: usize,
+    finals: &[u32; 256],
+    blocks: &[u8; 256],
+    names: &[u8; 256],
+) -> [u32; 256]
     requires { ⌜ (states ≤ 256) × (number ≤ 256) × (length (now finals) ≡ 256) × (length (now blocks) ≡ 256) × (length (now names) ≡ 256) ⌝ }
     ensures { λ r. ⌜ (length r ≡ 256) × ((D : ℕ) → D < number → getD r D 0 ≡ finalFor (sideOf direction) arithmetic states (now (finals .entry)) (blockOf (now (blocks .entry))) (nameOf (now (names .entry))) D) ⌝ }
 {
@@ -142,7 +190,14 @@ fn is_named(q: State, blocks: &[u8; 256], names: &[u8; 256]) -> bool
 }
 
 // Whether the children of transition j are all named.
-fn children_named<'a>(j: usize, ranks: &'a [u8; 128], symbol: &'a [u8; 4000], children: &'a [u8; 16000], blocks: &[u8; 256], names: &[u8; 256]) -> bool
+fn children_named<'a>(
+    j: usize,
+    ranks: &'a [u8; 128],
+    symbol: &'a [u8; 4000],
+    children: &'a [u8; 16000],
+    blocks: &[u8; 256],
+    names: &[u8; 256],
+) -> bool
     requires { ⌜ (length (now ranks) ≡ 128) × (length (now symbol) ≡ 4000) × (length (now children) ≡ 16000) × (length (now blocks) ≡ 256) × (length (now names) ≡ 256) × Row (now ranks) (now symbol) j ⌝ }
     ensures { λ r. ⌜ r ≡ allNamed (blockOf (now (blocks .entry))) (nameOf (now (names .entry))) (rowAt (columns (now (ranks .entry)) (now (symbol .entry)) (now (children .entry)) [] []) j .children) ⌝ }
 {
@@ -160,18 +215,34 @@ fn children_named<'a>(j: usize, ranks: &'a [u8; 128], symbol: &'a [u8; 4000], ch
 }
 
 // Whether transition j counts: backward its target is named, forward its children are.
-fn counts<'a>(direction: u32, j: usize, ranks: &'a [u8; 128], symbol: &'a [u8; 4000], children: &'a [u8; 16000], target: &'a [u8; 4000], blocks: &[u8; 256], names: &[u8; 256]) -> bool
+fn counts<'a>(
+    direction: u32,
+    j: usize,
+    ranks: &'a [u8; 128],
+    symbol: &'a [u8; 4000],
+    children: &'a [u8; 16000],
+    target: &'a [u8; 4000],
+    blocks: &[u8; 256],
+    names: &[u8; 256],
+) -> bool
     requires { ⌜ (length (now ranks) ≡ 128) × (length (now symbol) ≡ 4000) × (length (now children) ≡ 16000) × (length (now target) ≡ 4000) × (length (now blocks) ≡ 256) × (length (now names) ≡ 256) × Row (now ranks) (now symbol) j ⌝ }
     ensures { λ r. ⌜ r ≡ counted (blockOf (now (blocks .entry))) (nameOf (now (names .entry))) (sideOf direction) (rowAt (columns (now (ranks .entry)) (now (symbol .entry)) (now (children .entry)) (now (target .entry)) []) j) ⌝ }
 {
-    if direction == 0 {
-        return is_named(State(target[j]), blocks, names);
+    if direction != 0 {
+        return children_named(j, ranks, symbol, children, blocks, names);
     }
-    children_named(j, ranks, symbol, children, blocks, names)
+    is_named(State(target[j]), blocks, names)
 }
 
 // The key of transition j's blocks, as one number: the symbol, the children's blocks, the target's block.
-fn key_of<'a>(j: usize, ranks: &'a [u8; 128], symbol: &'a [u8; 4000], children: &'a [u8; 16000], target: &'a [u8; 4000], blocks: &[u8; 256]) -> u64
+fn key_of<'a>(
+    j: usize,
+    ranks: &'a [u8; 128],
+    symbol: &'a [u8; 4000],
+    children: &'a [u8; 16000],
+    target: &'a [u8; 4000],
+    blocks: &[u8; 256],
+) -> u64
     requires { ⌜ (length (now ranks) ≡ 128) × (length (now symbol) ≡ 4000) × (length (now children) ≡ 16000) × (length (now target) ≡ 4000) × (length (now blocks) ≡ 256) × Row (now ranks) (now symbol) j ⌝ }
     ensures { λ r. ⌜ r ≡ pack (blockKey (blockOf (now (blocks .entry))) (rowAt (columns (now (ranks .entry)) (now (symbol .entry)) (now (children .entry)) (now (target .entry)) []) j)) ⌝ }
 {
@@ -189,7 +260,19 @@ fn key_of<'a>(j: usize, ranks: &'a [u8; 128], symbol: &'a [u8; 4000], children: 
 }
 
 // An entry for each transition that counts. Answers how many there are.
-fn gather<'a>(direction: u32, count: usize, ranks: &'a [u8; 128], symbol: &'a [u8; 4000], children: &'a [u8; 16000], target: &'a [u8; 4000], code: &'a [u32; 4000], blocks: &[u8; 256], names: &[u8; 256], keys: &mut [u64; 16000], codes: &mut [u32; 16000]) -> usize
+fn gather<'a>(
+    direction: u32,
+    count: usize,
+    ranks: &'a [u8; 128],
+    symbol: &'a [u8; 4000],
+    children: &'a [u8; 16000],
+    target: &'a [u8; 4000],
+    code: &'a [u32; 4000],
+    blocks: &[u8; 256],
+    names: &[u8; 256],
+    keys: &mut [u64; 16000],
+    codes: &mut [u32; 16000],
+) -> usize
     requires { ⌜ Long (columns (now ranks) (now symbol) (now children) (now target) (now code)) × Rows (now ranks) (now symbol) count × (length (now blocks) ≡ 256) × (length (now names) ≡ 256) × (length (now keys) ≡ 16000) × (length (now codes) ≡ 16000) ⌝ }
     ensures { λ r. ⌜ Gathered (gathered (blockOf (now (blocks .entry))) (nameOf (now (names .entry))) (sideOf direction) (rowsFrom (columns (now (ranks .entry)) (now (symbol .entry)) (now (children .entry)) (now (target .entry)) (now (code .entry))) 0 count)) count (now (keys .exit)) (now (codes .exit)) r ⌝ }
 {
@@ -221,7 +304,16 @@ fn unpack_children(packed: u64, from: usize, rank: usize, children: &mut [u8; 16
 }
 
 // An entry as transition i.
-fn unpack(i: usize, key: u64, weight: u32, ranks: &[u8; 128], symbol: &mut [u8; 4000], children: &mut [u8; 16000], target: &mut [u8; 4000], code: &mut [u32; 4000])
+fn unpack(
+    i: usize,
+    key: u64,
+    weight: u32,
+    ranks: &[u8; 128],
+    symbol: &mut [u8; 4000],
+    children: &mut [u8; 16000],
+    target: &mut [u8; 4000],
+    code: &mut [u32; 4000],
+)
     requires { ⌜ (i < 4000) × KeyKnown (now ranks) key × Long (columns (now ranks) (now symbol) (now children) (now target) (now code)) ⌝ }
     ensures { λ _. ⌜ RowPut i (transitionOf (now (ranks .entry)) (record { key = key; code = weight }))
         (columns (now (ranks .entry)) (now (symbol .entry)) (now (children .entry)) (now (target .entry)) (now (code .entry)))
@@ -236,7 +328,16 @@ fn unpack(i: usize, key: u64, weight: u32, ranks: &[u8; 128], symbol: &mut [u8; 
 }
 
 // The entries as the transitions of a table.
-fn unpack_all(count: usize, ranks: &[u8; 128], keys: &[u64; 16000], codes: &[u32; 16000], symbol: &mut [u8; 4000], children: &mut [u8; 16000], target: &mut [u8; 4000], code: &mut [u32; 4000])
+fn unpack_all(
+    count: usize,
+    ranks: &[u8; 128],
+    keys: &[u64; 16000],
+    codes: &[u32; 16000],
+    symbol: &mut [u8; 4000],
+    children: &mut [u8; 16000],
+    target: &mut [u8; 4000],
+    code: &mut [u32; 4000],
+)
     requires { ⌜ (count ≤ 4000) × (length (now keys) ≡ 16000) × (length (now codes) ≡ 16000) × ((i : ℕ) → i < count → KeyKnown (now ranks) (getD (now keys) i 0)) × Long (columns (now ranks) (now symbol) (now children) (now target) (now code)) ⌝ }
     ensures { λ _. ⌜ Unpacked count (entries (now (keys .entry)) (now (codes .entry)) 0 count)
         (columns (now (ranks .entry)) (now (symbol .exit)) (now (children .exit)) (now (target .exit)) (now (code .exit))) ⌝ }

@@ -62,15 +62,19 @@ known-keys c =
 unpack-all-requires : tie.Need-unpack-all-requires
 unpack-all-requires c κs =
     let summed = c .before .before .before .before .before .before .before .before in
-    let held = summed .before .before .before .gather .ensures in
-    (few-end summed, summed .sum-up .ensures .keys-kept .long ∙ held .keys-long, summed .sum-up .ensures .codes-kept .long ∙ held .codes-long, known-keys summed,
-    record {
-      ranks = record-long (c .before .before .before .before .before .before .before .before .before .before .before .before .before .before .before .before .before .before .before .before .before .before .before .before .before .before) .ranks;
-      symbol = length-replicate {A = ℕ} 4000 0;
-      children = length-replicate {A = ℕ} 16000 0;
-      target = length-replicate {A = ℕ} 4000 0;
-      code = length-replicate {A = ℕ} 4000 0;
-    })
+    let held = summed .before .before .before .gather .ensures in (
+      few-end summed,
+      summed .sum-up .ensures .keys-kept .long ∙ held .keys-long,
+      summed .sum-up .ensures .codes-kept .long ∙ held .codes-long,
+      known-keys summed,
+      record {
+        ranks = record-long (c .before .before .before .before .before .before .before .before .before .before .before .before .before .before .before .before .before .before .before .before .before .before .before .before .before .before) .ranks;
+        symbol = length-replicate {A = ℕ} 4000 0;
+        children = length-replicate {A = ℕ} 16000 0;
+        target = length-replicate {A = ℕ} 4000 0;
+        code = length-replicate {A = ℕ} 4000 0;
+      },
+    )
 
 returns : tie.Need-returns
 returns c =

@@ -5,26 +5,26 @@ use borrow.Author.Needs.{needs}
 use Rattle.adding.proofs.counts.Statement.{statement}
 use Rattle.adding.proofs.counts.Tie as tie
 
+children-named-requires : tie.Need-children-named-requires
+children-named-requires c κs = search needs
+
+returns : tie.Need-returns
+returns c =
+    let s = c .before .before in
+    rw (side-forward (s .args .direction) (c .before .if1 .taken)) (c .children-named .ensures)
+
 element-copy-out-t12 : tie.Need-element-copy-out-t12
 element-copy-out-t12 c = search needs
 
 is-named-requires : tie.Need-is-named-requires
 is-named-requires c κs = search needs
 
-returns : tie.Need-returns
-returns c =
-    let s = c .before .before .before in
-    rw (side-backward (s .args .direction) (c .before .before .if1 .taken)) (c .is-named .ensures)
-
-children-named-requires : tie.Need-children-named-requires
-children-named-requires c κs = search needs
-
 returns-2 : tie.Need-returns-2
 returns-2 c =
-    let s = c .before .before in
-    rw (side-forward (s .args .direction) (c .before .if1 .left)) (c .children-named .ensures)
+    let s = c .before .before .before in
+    rw (side-backward (s .args .direction) (c .before .before .if1 .left)) (c .is-named .ensures)
 
 pub counts-spec : {M : Type 1} → statement M
 counts-spec =
     tie.close
-    (tie.spec element-copy-out-t12 is-named-requires returns children-named-requires returns-2)
+    (tie.spec children-named-requires returns element-copy-out-t12 is-named-requires returns-2)

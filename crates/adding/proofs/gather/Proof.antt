@@ -37,7 +37,7 @@ counts-requires c κs =
 key-of-requires : tie.Need-key-of-requires Inv-loop μ-loop
 key-of-requires c κs =
     let p = c .before .before .before .before .pre in
-    (p .0 .ranks, p .0 .symbol, p .0 .children, p .0 .target, p .2, p .1 .1 (c .before .before .before .loop .j) (c .before .before .loop-test .taken))
+    (p .0 .ranks, p .0 .symbol, p .0 .children, p .0 .target, search needs, p .1 .1 (c .before .before .before .loop .j) (c .before .before .loop-test .taken))
 
 mul-keys : tie.Need-mul-keys Inv-loop μ-loop
 mul-keys c = let few = many-few (c .before .before .before) in omega arith
@@ -72,8 +72,8 @@ loop-again c =
     let l = c .before .before .before .loop in
     let more = c .before .before .loop-test .taken in
     let counts-is = counted-same (blockOf (s .args .blocks .now)) (nameOf (s .args .names .now)) (sideOf (s .args .direction))
-        (rowAt (columns (s .args .ranks .now) (s .args .symbol .now) (s .args .children .now) (s .args .target .now) (s .args .code .now)) (l .j))
-        (rowAt (columns (s .args .ranks .now) (s .args .symbol .now) (s .args .children .now) (s .args .target .now) []) (l .j)) refl refl ∙ sym (c .before .counts .ensures) in
+    (rowAt (columns (s .args .ranks .now) (s .args .symbol .now) (s .args .children .now) (s .args .target .now) (s .args .code .now)) (l .j))
+    (rowAt (columns (s .args .ranks .now) (s .args .symbol .now) (s .args .children .now) (s .args .target .now) []) (l .j)) refl refl ∙ sym (c .before .counts .ensures) in
     ⊎-elim
     (λ w. rw (w .3, w .4, w .5) (gathering-takes _ _ _ _ _ (l .keys) (l .codes) (l .many) (l .j) (l .inv) more (s .pre .1 .0) (counts-is ∙ w .0 .taken) _ _ (w .1 .ensures) refl))
     (λ w. rw (w .1, w .2, w .3) (gathering-skips _ _ _ _ _ (l .keys) (l .codes) (l .many) (l .j) (l .inv) more (counts-is ∙ w .0 .left)))

@@ -118,8 +118,8 @@ returns c =
     let l = c .before .before .before .before .before .loop in
     let kids : List ℕ = kidsOf (s .args .children .now) (getD (s .args .ranks .now) (getD (s .args .symbol .now) (s .args .j) 0) 0) (s .args .j) in
     let whole : l .packed ≡ packed 0 (map (blockOf (s .args .blocks .now)) kids) =
-        keying-ends _ _ (l .packed) (l .k) (l .inv) (omega (arith, many (c .before .before .before .before .before), c .before .before .before .before .loop-test .left))
-        ∙ ap (λ (k : ℕ). packed 0 (map (blockOf (s .args .blocks .now)) (kidsOf (s .args .children .now) k (s .args .j)))) (rank-is (c .before .before .before .before .before)) in
+    keying-ends _ _ (l .packed) (l .k) (l .inv) (omega (arith, many (c .before .before .before .before .before), c .before .before .before .before .loop-test .left))
+    ∙ ap (λ (k : ℕ). packed 0 (map (blockOf (s .args .blocks .now)) (kidsOf (s .args .children .now) k (s .args .j)))) (rank-is (c .before .before .before .before .before)) in
     let block : c .long3 .result ≡ blockOf (s .args .blocks .now) (getD (s .args .target .now) (s .args .j) 0) = c .long3 .ensures .0 ∙ c .before .before .block-of2 .ensures in
     ap₂ (λ (σ n : ℕ). σ * 1099511627776 + n) (c .before .long2 .ensures .0)
     (ap₂ (λ (n D : ℕ). n * 256 + D) whole block ∙ sym (packed-last 0 (map (blockOf (s .args .blocks .now)) kids) _))
