@@ -1,0 +1,112 @@
+-- Demand 3, from the bytes of the first table to the bytes of the last: no sequence of collapses in which none is refused changes the
+-- weight of any tree, however large; and the last collapse, made again at once with room for it, returns the same bytes.
+use Prim.Native.Nat.{ℕ, _<_}
+use mathlib.Core.Path.{_≡_, sym, ap, _∙_, subst}
+use mathlib.Core.Bool.{Bool, true, false}
+use mathlib.Core.List.{List}
+use native.Mathlib.Omega.{arith}
+use lib.ListN.{length, getD, take}
+use lib.Seq.{take-append-seam}
+use lib.Dec.{leb}
+use Rattle.answers.specs.declared.Answer.the-variants.{Done}
+use Rattle.model.specs.Table.{Table, Proper}
+use Rattle.model.specs.Tree.{Tree}
+use Rattle.theory.specs.Weight.{value}
+use Rattle.theory.specs.Direction.{direction}
+use Rattle.theory.specs.Collapse.{CollapsedByCoarsest}
+use Rattle.theory.specs.CollapseProper.{collapsedByCoarsest-proper}
+use Rattle.theory.specs.Sequence.{Sequence, start, collapse, sequence-value, sequence-again}
+use Rattle.format.specs.Read.{Found, found, tableRead}
+use Rattle.format.specs.Written.{bytesOf}
+use Rattle.roundtrip.specs.Tables.{table-sound, table-complete}
+use Rattle.calls.specs.Answers.{fits, filled}
+use Rattle.collapse.specs.Promises.{written, TablePut, PutFrom, Collapses}
+use Rattle.collapse.specs.declared.Counted.{Counted}
+
+-- a collapse in direction d of a table that is not refused: `to` is what it wrote into some lent room
+pub record Collapsing (d : ℕ) (from to : List ℕ) : Type 0 where
+  pub room-before : List ℕ
+  pub room-after : List ℕ
+  pub given : Counted
+  pub collapses : Collapses d from room-before given room-after
+  pub done : given .answer ≡ Done (length to)
+  pub wrote : to ≡ take (length to) room-after
+
+-- any sequence of collapses, backward and forward, none of them refused
+pub data Collapsings (from : List ℕ) : List ℕ → Type 0 where
+  none : Collapsings from from
+  _behind_ : {to next : List ℕ} {d : ℕ} → Collapsing d to next → Collapsings from to → Collapsings from next
+
+-- the bytes are a table within document 01's bounds
+pub record Reads (bytes : List ℕ) (X : Table) : Type 0 where
+  pub is : bytes ≡ bytesOf X
+  pub proper : Proper X
+
+reads-found : (bytes : List ℕ) (X : Table) → Reads bytes X → tableRead bytes ≡ found X (length (bytesOf X))
+reads-found bytes X r = rw (r .is) (table-complete X (r .proper))
+
+-- what one collapse wrote
+module _ (d : ℕ) (from to : List ℕ) (c : Collapsing d from to) (X : Table) (r : Reads from X) where
+  record Wrote : Type 0 where
+    result : Table
+    reads : Reads to result
+    collapsed : CollapsedByCoarsest (direction d) X result
+
+  put : (known : Bool) → PutFrom known (found X (length (bytesOf X))) (CollapsedByCoarsest (direction d)) (c .room-before) (c .given) (c .room-after)
+      → TablePut (CollapsedByCoarsest (direction d) X) (c .room-before) (c .given) (c .room-after)
+  put false p = absurd (let e = ap (λ (g : Counted). g .answer) (p .0) in let z : _≡_ {A = ℕ} 0 1 = cc (e, c .done) in omega arith)
+  put true p = p
+
+  from-put : TablePut (CollapsedByCoarsest (direction d) X) (c .room-before) (c .given) (c .room-after) → Wrote
+  from-put p = go (fits (bytesOf (p .table)) (c .room-before)) (p .answer-is) (p .room-is)
+    where
+      go : (b : Bool) → c .given ≡ written b (p .table) → c .room-after ≡ filled b (bytesOf (p .table)) (c .room-before) → Wrote
+      go false e f = absurd (let g = ap (λ (g : Counted). g .answer) e in let z : _≡_ {A = ℕ} 0 1 = cc (g, c .done) in omega arith)
+      go true e f =
+          let n : length to ≡ length (bytesOf (p .table)) = let g = ap (λ (g : Counted). g .answer) e in cc (g, c .done) in
+          let front : take (length to) (c .room-after) ≡ bytesOf (p .table) = rw (n, f) (take-append-seam (bytesOf (p .table)) _) in
+          record {
+              result = p .table;
+              reads = record { is = c .wrote ∙ front; proper = collapsedByCoarsest-proper (direction d) X (p .table) (p .named) (r .proper) };
+              collapsed = p .named
+          }
+
+  wrote : Wrote
+  wrote = from-put (put (leb d 1) (subst (λ (x : Found Table). PutFrom (leb d 1) x (CollapsedByCoarsest (direction d)) (c .room-before) (c .given) (c .room-after)) (reads-found from X r) (c .collapses)))
+
+-- the bytes at the end of a sequence are a table, which a sequence of collapses gives from X
+record Reached (X : Table) (bytes : List ℕ) : Type 0 where
+  last : Table
+  reads : Reads bytes last
+  sequence : Sequence X last
+
+reach : (from to : List ℕ) (X : Table) → Reads from X → Collapsings from to → Reached X to
+reach from to X r none = record { last = X; reads = r; sequence = start }
+reach from to X r (_behind_ {to = middle} {d = d} c s) =
+    let k = reach from middle X r s in
+    let w = wrote d middle to c (k .last) (k .reads) in
+    record { last = w .result; reads = w .reads; sequence = collapse (k .sequence) (direction d) (w .collapsed) }
+
+-- every tree has the weight in the table that these bytes are that it has in X
+pub record Kept (X : Table) (bytes : List ℕ) : Type 0 where
+  pub last : Table
+  pub reads : Reads bytes last
+  pub weights : (t : Tree) → value last t ≡ value X t
+
+module _ (from : List ℕ) (bytes : (i : ℕ) → getD from i 0 < 256) (X : Table) (end : ℕ) (accepted : tableRead from ≡ found X end) where
+  first : Reads from X
+  first = let sound = table-sound from bytes X end accepted in record { is = sound .1; proper = sound .0 }
+
+  -- Demand 3, first part: whatever the sequence, every tree keeps its weight.
+  pub weights-kept : (to : List ℕ) → Collapsings from to → Kept X to
+  weights-kept to s =
+      let k = reach from to X first s in
+      record { last = k .last; reads = k .reads; weights = sequence-value (first .proper) (k .sequence) }
+
+  -- Demand 3, second part: the last collapse, made again at once, returns the same bytes.
+  pub same-bytes : (middle to again : List ℕ) (d : ℕ) → Collapsings from middle → Collapsing d middle to → Collapsing d to again → again ≡ to
+  same-bytes middle to again d s c c′ =
+      let k = reach from middle X first s in
+      let w = wrote d middle to c (k .last) (k .reads) in
+      let w′ = wrote d to again c′ (w .result) (w .reads) in
+      w′ .reads .is ∙ ap bytesOf (sequence-again (first .proper) (k .sequence) (direction d) (w .result) (w′ .result) (w .collapsed) (w′ .collapsed)) ∙ sym (w .reads .is)

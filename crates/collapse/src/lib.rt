@@ -1,0 +1,145 @@
+// The calls that find blocks and shrink: blocks, collapse, shrink. No caller is trusted to have looked at a table before.
+
+use answers::{Answer, Refusal};
+use tables::TableRecord;
+
+ghost use mathlib.Core.Path.{_≡_};
+ghost use Prim.Native.Nat.{ℕ, _≤_, _<_};
+ghost use lib.ListN.{length, take};
+ghost use Rattle.format.specs.Written.{bytesOf};
+ghost use Rattle.tables.specs.Record.{tableOf};
+ghost use Rattle.writer.specs.Writable.{Writable};
+ghost use Rattle.calls.specs.Answers.{fits, filled};
+ghost use Rattle.theory.specs.Direction.{direction as sideOf};
+ghost use Rattle.theory.specs.Collapse.{CollapsedByCoarsest};
+ghost use Rattle.theory.specs.Shrink.{Shrinks};
+ghost use Rattle.collapse.specs.Promises.{blocksAnswer, written, refusedBy, Blocks, Collapses, ShrinksTo};
+ghost use Rattle.collapse.specs.Readable.{Readable};
+
+// What a collapse or a shrink gives back: the answer, and beside it the new counts of states and transitions (0 on refusal).
+pub struct Counted {
+    pub answer: Answer,
+    pub states: usize,
+    pub transitions: usize,
+}
+
+fn refuse(refusal: Refusal) -> Counted
+    ensures { λ r. ⌜ r ≡ refusedBy refusal ⌝ }
+{
+    Counted { answer: Answer::Refused(refusal), states: 0, transitions: 0 }
+}
+
+// A table's written form into the room. It is made aside first, since a refusal leaves the room alone.
+fn put_table(table: TableRecord, room: &mut [u8]) -> Counted
+    requires { ⌜ Writable table ⌝ }
+    ensures { λ r. ⌜ (r ≡ written (fits (bytesOf (tableOf table)) (now (room .entry))) (tableOf table))
+        × (now (room .exit) ≡ filled (fits (bytesOf (tableOf table)) (now (room .entry))) (bytesOf (tableOf table)) (now (room .entry))) ⌝ }
+{
+    let states = table.states;
+    let transitions = table.count;
+    let mut form = [0u8; 65415];
+    let needed = writer::write(table, &mut form);
+    if room.len() < needed {
+        return refuse(Refusal::RoomTooShort(needed));
+    }
+    bytes::copy(&form[..needed], room);
+    Counted { answer: Answer::Done(needed), states, transitions }
+}
+
+// The blocks into the room, one byte a state.
+fn put_blocks(blocks: &[u8], states: usize, number: usize, room: &mut [u8]) -> Answer
+    requires { ⌜ states ≤ length (now blocks) ⌝ }
+    ensures { λ r. ⌜ (r ≡ blocksAnswer (fits (take states (now (blocks .entry))) (now (room .entry))) states number)
+        × (now (room .exit) ≡ filled (fits (take states (now (blocks .entry))) (now (room .entry))) (take states (now (blocks .entry))) (now (room .entry))) ⌝ }
+{
+    if room.len() < states {
+        return Answer::Refused(Refusal::RoomTooShort(states));
+    }
+    bytes::copy(&blocks[..states], room);
+    Answer::Done(number)
+}
+
+// The coarsest blocks of a table, one byte a state: done with their number.
+pub fn blocks(direction: u32, table: &[u8], room: &mut [u8]) -> Answer
+    ensures { λ r. ⌜ Blocks direction (now (table .entry)) (now (room .entry)) r (now (room .exit)) ⌝ }
+{
+    if 1 < direction {
+        return Answer::Refused(Refusal::NoDirection);
+    }
+    let reading = tables::read(table);
+    let answer = reading.answer;
+    match answer {
+        Answer::Done(states) => {
+            let mut list = [0u8; 256];
+            let record = reading.table;
+            let number = refine::coarsest(direction, record, &mut list);
+            put_blocks(&list[..states], states, number, room)
+        }
+        Answer::Refused(refusal) => Answer::Refused(refusal),
+    }
+}
+
+// A record collapsed by its coarsest blocks.
+fn collapsed(direction: u32, table: TableRecord) -> TableRecord
+    requires { ⌜ (direction ≤ 1) × Readable table ⌝ }
+    ensures { λ r. ⌜ Readable r × CollapsedByCoarsest (sideOf direction) (tableOf table) (tableOf r) ⌝ }
+{
+    let states = table.states;
+    let mut list = [0u8; 256];
+    let number = refine::coarsest(direction, table, &mut list);
+    let mut padded = [0u8; 256];
+    bytes::copy(&list[..states], &mut padded);
+    adding::add_up(direction, table, &padded, number)
+}
+
+// A table collapsed by its coarsest blocks: done with the length written.
+pub fn collapse(direction: u32, table: &[u8], room: &mut [u8]) -> Counted
+    ensures { λ r. ⌜ Collapses direction (now (table .entry)) (now (room .entry)) r (now (room .exit)) ⌝ }
+{
+    if 1 < direction {
+        return refuse(Refusal::NoDirection);
+    }
+    let reading = tables::read(table);
+    let answer = reading.answer;
+    match answer {
+        Answer::Done(_) => {
+            let record = reading.table;
+            put_table(collapsed(direction, record), room)
+        }
+        Answer::Refused(refusal) => refuse(refusal),
+    }
+}
+
+// Backward and forward collapses take turns, from a side on, until one merges no states.
+fn shrunk(direction: u32, table: TableRecord) -> TableRecord
+    requires { ⌜ (direction ≤ 1) × Readable table ⌝ }
+    ensures { λ r. ⌜ Readable r × Shrinks (sideOf direction) (tableOf table) (tableOf r) ⌝ }
+{
+    let mut side = direction;
+    let mut present = table;
+    let mut next = collapsed(side, present);
+    while next.states < present.states {
+        side = 1 - side;
+        present = next;
+        next = collapsed(side, present);
+    }
+    next
+}
+
+// A table shrunk from a side: done with the length written.
+pub fn shrink(direction: u32, table: &[u8], room: &mut [u8]) -> Counted
+    ensures { λ r. ⌜ ShrinksTo direction (now (table .entry)) (now (room .entry)) r (now (room .exit)) ⌝ }
+{
+    if 1 < direction {
+        return refuse(Refusal::NoDirection);
+    }
+    let reading = tables::read(table);
+    let answer = reading.answer;
+    match answer {
+        Answer::Done(_) => {
+            let record = reading.table;
+            put_table(shrunk(direction, record), room)
+        }
+        Answer::Refused(refusal) => refuse(refusal),
+    }
+}
