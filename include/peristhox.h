@@ -1,5 +1,6 @@
 /*
- * Peristhox: weighted tree automata as tables of bytes: checked, written again, used to weigh trees. Every call is proved.
+ * Peristhox: weighted tree automata as tables of bytes: checked, written again, collapsed, shrunk, used to weigh
+ * trees. Every call is proved.
  *
  * Each call gives back code times 2^32 plus figure: PERISTHOX_CODE and PERISTHOX_FIGURE take the two apart. Code 0 is "done".
  * Under any other code the call has changed no lent memory. Nothing is kept between calls, nothing is allocated, and a call may
@@ -39,6 +40,12 @@ extern "C" {
 #define PERISTHOX_TREE_TOO_LONG 11  /* a node is due and there is a byte at offset 4,096: 4,096 */
 #define PERISTHOX_ROOM_TOO_SHORT 12 /* the lent room is too short: the room needed */
 
+#define PERISTHOX_NO_DIRECTION 13   /* the direction is above 1: 0 */
+
+/* The directions. A shrink's direction is its first side. */
+#define PERISTHOX_BACKWARD 0
+#define PERISTHOX_FORWARD 1
+
 /* The greatest sizes. */
 #define PERISTHOX_TABLE_MAX 65415   /* bytes of a table */
 #define PERISTHOX_STATES_MAX 256
@@ -47,7 +54,7 @@ extern "C" {
 #define PERISTHOX_TRANSITIONS_MAX 4000
 #define PERISTHOX_NODES_MAX 4096    /* nodes of a tree, one byte each */
 #define PERISTHOX_NOTHING INT64_MIN /* in a sheet and as a weight: "nothing", which is below every number */
-#define PERISTHOX_STACK 262144      /* bytes of stack that are enough for every call */
+#define PERISTHOX_STACK 524288      /* bytes of stack that are enough for every call */
 
 /* Whether the bytes are a table. Done: the number of its states. */
 uint64_t peristhox_check(const uint8_t *table, size_t table_len);
@@ -57,6 +64,21 @@ uint64_t peristhox_check(const uint8_t *table, size_t table_len);
  * the room behind it stays as it was.
  */
 uint64_t peristhox_rewrite(const uint8_t *table, size_t table_len, uint8_t *room, size_t room_len);
+
+/*
+ * The coarsest bisimulation of that direction: one byte a state, its block, numbered by first use. Done: the number of blocks; the
+ * room needed is the number of states.
+ */
+uint64_t peristhox_blocks(uint32_t direction, const uint8_t *table, size_t table_len, uint8_t *room, size_t room_len);
+
+/*
+ * Writes the table collapsed by those blocks. Every tree keeps its weight. Done: the length written, which is also the room needed;
+ * PERISTHOX_TABLE_MAX bytes are always enough.
+ */
+uint64_t peristhox_collapse(uint32_t direction, const uint8_t *table, size_t table_len, uint8_t *room, size_t room_len);
+
+/* Writes the table shrunk: collapses take turns from that side, until one merges no states. Done: as peristhox_collapse. */
+uint64_t peristhox_shrink(uint32_t direction, const uint8_t *table, size_t table_len, uint8_t *room, size_t room_len);
 
 /*
  * Weighs a tree (one byte a node, the symbol, in prefix order) by a table. Done: the number of nodes. The sheet then holds at

@@ -1,2 +1,3 @@
 pub mod Figures
 pub mod Lent
+pub mod Shrunken

@@ -1,1 +1,2 @@
+pub mod Faces
 pub mod Lent

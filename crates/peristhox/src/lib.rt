@@ -7,6 +7,7 @@ ghost use lib.ListN.{length};
 ghost use Rattle.calls.specs.Answers.{checked, rewrittenAnswer, rewrittenRoom};
 ghost use Rattle.weigh.specs.Promise.{asked, answered, filled};
 ghost use Rattle.peristhox.specs.Lent.{weightAfter};
+ghost use Rattle.peristhox.specs.Faces.{BlocksFace, CollapseFace, ShrinkFace};
 
 // Whether the bytes are a table: done with its number of states.
 #[no_mangle]
@@ -39,5 +40,33 @@ pub extern "C" fn peristhox_weigh(table: &[u8], tree: &[u8], sheet: &mut [i64], 
     if weighing.given {
         *weight = found;
     }
+    answers::pack(answer)
+}
+
+// The coarsest blocks of a table, one byte a state, into the room: done with their number.
+#[no_mangle]
+pub extern "C" fn peristhox_blocks(direction: u32, table: &[u8], room: &mut [u8]) -> u64
+    ensures { λ r. ⌜ BlocksFace direction (now (table .entry)) (now (room .entry)) r (now (room .exit)) ⌝ }
+{
+    answers::pack(collapse::blocks(direction, table, room))
+}
+
+// A table collapsed by its coarsest blocks, into the room: done with its length.
+#[no_mangle]
+pub extern "C" fn peristhox_collapse(direction: u32, table: &[u8], room: &mut [u8]) -> u64
+    ensures { λ r. ⌜ CollapseFace direction (now (table .entry)) (now (room .entry)) r (now (room .exit)) ⌝ }
+{
+    let counted = collapse::collapse(direction, table, room);
+    let answer = counted.answer;
+    answers::pack(answer)
+}
+
+// A table shrunk from a side, into the room: done with its length.
+#[no_mangle]
+pub extern "C" fn peristhox_shrink(direction: u32, table: &[u8], room: &mut [u8]) -> u64
+    ensures { λ r. ⌜ ShrinkFace direction (now (table .entry)) (now (room .entry)) r (now (room .exit)) ⌝ }
+{
+    let counted = collapse::shrink(direction, table, room);
+    let answer = counted.answer;
     answers::pack(answer)
 }
