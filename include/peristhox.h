@@ -54,7 +54,7 @@ extern "C" {
 #define PERISTHOX_TRANSITIONS_MAX 4000
 #define PERISTHOX_NODES_MAX 4096    /* nodes of a tree, one byte each */
 #define PERISTHOX_NOTHING INT64_MIN /* in a sheet and as a weight: "nothing", which is below every number */
-#define PERISTHOX_STACK 524288      /* bytes of stack that are enough for every call */
+#define PERISTHOX_STACK 1048576     /* bytes of stack that are enough for every call (blocks: 524288, check and weigh: 262144) */
 
 /* Whether the bytes are a table. Done: the number of its states. */
 uint64_t peristhox_check(const uint8_t *table, size_t table_len);
