@@ -10,7 +10,7 @@ use lib.Signed.{mag, leZ, nonNeg}
 use Rattle.theory.specs.Equality.{of-true, true-of}
 use Rattle.theory.specs.Modular.{residue-number}
 use Rattle.theory.specs.MaxPlus.{Value, nothing, number, greater}
-use Rattle.theory.specs.Arithmetic.{arithmetic, Weight, sheetNumber}
+use Rattle.theory.specs.Arithmetic.{Weight, sheetNumber}
 use Rattle.theory.specs.Bound.{Within}
 use Rattle.arith.specs.Numbers.{numberOf, weightOf, isNothing, Stands, InSheet}
 
@@ -68,11 +68,3 @@ greater-left a (number x) (number y) h e = rw e
 pub within-inSheet : (a k : ℕ) → k ≤ 2 ^ 32 → (w : Value) → Within k w → InSheet (suc a) w
 within-inSheet a k few nothing h = tt
 within-inSheet a k few (number z) h = omega arith
-
--- what a sum and a product of numbers stand for, where it is known what the numbers stand for
-module _ (a : ℕ) (u v : Weight a) (hu : InSheet a u) (hv : InSheet a v) where
-  pub sum-of-numbers : (arithmetic a) .plus (weightOf a (numberOf a u)) (weightOf a (numberOf a v)) ≡ (arithmetic a) .plus u v
-  sum-of-numbers = rw (weight-number a u hu, weight-number a v hv)
-
-  pub product-of-numbers : (arithmetic a) .times (weightOf a (numberOf a u)) (weightOf a (numberOf a v)) ≡ (arithmetic a) .times u v
-  product-of-numbers = rw (weight-number a u hu, weight-number a v hv)

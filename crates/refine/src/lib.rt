@@ -179,6 +179,11 @@ fn group<'a>(
     ensures { λ r. ⌜ (length (now (keys .exit)) ≡ 16000) × (length (now (codes .exit)) ≡ 16000) × (length (now (part .exit)) ≡ 256)
         × Grouped arithmetic (λ p. map (entryOf (sideOf direction) (now (ranks .entry)) (now (symbol .entry)) (now (children .entry)) (now (target .entry)) (now (code .entry)) (blockOf (now (blocks .entry)))) (listed (now (starts .entry)) (now (list .entry)) p)) many (now (found .entry)) r (now (part .exit)) ⌝ }
 {
+    // a member that is alone has no profile to compare
+    if many == 1 {
+        part[0] = 0;
+        return 1;
+    }
     let mut ends = [0u16; 256];
     keys::sum_up_members(
         direction,

@@ -11,17 +11,17 @@ use Rattle.theory.specs.Arithmetic.{arithmetic, Weight, meaning, meaning-zero}
 use Rattle.theory.specs.Bound.{within-more, within-greater, within-added, within-meaning}
 use Rattle.arith.specs.Numbers.{numberOf, weightOf, Stands, InSheet}
 use Rattle.arith.specs.Standing.{weight-number, number-stands, within-inSheet}
-use Rattle.weigh.specs.Steps.{Bounded, StandsFor, Good}
+use Rattle.weigh.specs.Numbers.{Bounded, StandsFor, Good}
 
 bounded-inSheet : (a k : ℕ) → k ≤ 2 ^ 32 → (w : Weight a) → Bounded a k w → InSheet a w
 bounded-inSheet zero k few w h = tt
 bounded-inSheet (suc a) k few w h = within-inSheet a k few w h
 
-pub bounded-zero : (a k : ℕ) → Bounded a k ((arithmetic a) .zero)
+bounded-zero : (a k : ℕ) → Bounded a k ((arithmetic a) .zero)
 bounded-zero zero k = tt
 bounded-zero (suc a) k = tt
 
-pub bounded-more : (a j k : ℕ) → j ≤ k → (w : Weight a) → Bounded a j w → Bounded a k w
+bounded-more : (a j k : ℕ) → j ≤ k → (w : Weight a) → Bounded a j w → Bounded a k w
 bounded-more zero j k l w h = tt
 bounded-more (suc a) j k l w h = within-more j k l w h
 
@@ -33,7 +33,7 @@ bounded-times : (a j k : ℕ) (u v : Weight a) → Bounded a j u → Bounded a k
 bounded-times zero j k u v h i = tt
 bounded-times (suc a) j k u v h i = within-added j k u v h i
 
-pub bounded-meaning : (a c : ℕ) → c < 2 ^ 32 → Bounded a 1 (meaning a c)
+bounded-meaning : (a c : ℕ) → c < 2 ^ 32 → Bounded a 1 (meaning a c)
 bounded-meaning zero c l = tt
 bounded-meaning (suc a) zero l = tt
 bounded-meaning (suc a) (suc z) l = within-meaning (suc z) l

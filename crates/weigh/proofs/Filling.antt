@@ -14,7 +14,8 @@ use Rattle.theory.specs.Weight.{weightAt}
 use Rattle.theory.specs.Sheet.{row}
 use Rattle.arith.specs.Numbers.{numberOf}
 use Rattle.trees.specs.Subtrees.{starts, rankAt, subtree, starts-end, starts-node, starts-few}
-use Rattle.weigh.specs.Steps.{StandsFor, Replaced}
+use Rattle.weigh.specs.Numbers.{StandsFor}
+use Rattle.weigh.specs.Steps.{Replaced}
 use Rattle.weigh.proofs.Replacing.{replaced-list}
 use Rattle.weigh.proofs.Sheets.{nodeRows, nodeRows-end, nodeRows-more, nodeRows-entry, getD-below, length-below}
 use Rattle.weigh.proofs.Weights.{bounded-subtree}
@@ -50,7 +51,7 @@ module _ (X : Table) (tree : List ℕ) (before : List ℤ) (room : length tree *
 
 module _ {X : Table} {tree : List ℕ} {before sheet : List ℤ} {stack : List ℕ} {top at : ℕ} (room : length tree * X .states ≤ length before) (so-far : Filling X tree before sheet stack top at) where
   -- what stands at node × n + state
-  pub filling-entry : (i q : ℕ) → at ≤ i → i < length tree → q < X .states
+  filling-entry : (i q : ℕ) → at ≤ i → i < length tree → q < X .states
       → getD sheet (i * X .states + q) (pos 0) ≡ numberOf (X .arithmetic) (weightAt (X .arithmetic) X (subtree (X .ranks) tree i) q)
   filling-entry i q l inside known =
       let n = X .states in

@@ -8,7 +8,8 @@ use native.Mathlib.Numerals.{add-one}
 use lib.IntN.{ℤ}
 use Rattle.theory.specs.Arithmetic.{arithmetic, Weight}
 use Rattle.arith.specs.Numbers.{numberOf, weightOf, Stands, InSheet}
-use Rattle.weigh.specs.Steps.{StandsFor, Good, Sources, childNumber, ownNumber, timesChildren, productOf}
+use Rattle.weigh.specs.Numbers.{StandsFor, Good}
+use Rattle.weigh.specs.Rows.{Sources, childNumber, ownNumber, timesChildren, productOf}
 use Rattle.weigh.proofs.Bounds.{stands-number, stands-weight, stands-good, stands-more, product-inSheet, stands-product}
 
 -- k children of transition j are multiplied into x

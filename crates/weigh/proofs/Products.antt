@@ -11,7 +11,7 @@ use Rattle.theory.specs.Arithmetic.{arithmetic, Weight}
 use Rattle.theory.specs.Weight.{weightAt, productAt}
 use Rattle.arith.specs.Numbers.{weightOf}
 use Rattle.trees.specs.Subtrees.{subtree, subtrees}
-use Rattle.weigh.specs.Steps.{Sources, childNumber, ownNumber, timesChildren, productOf}
+use Rattle.weigh.specs.Rows.{Sources, childNumber, ownNumber, timesChildren, productOf}
 
 -- `nodes` are where the children begin, and `states` are the states of transition j for them
 module _ (a : ℕ) (X : Table) (tree : List ℕ) (s : Sources) (rank j : ℕ) (nodes states : List ℕ) (enough-nodes : rank ≤ length nodes) (enough-states : rank ≤ length states)

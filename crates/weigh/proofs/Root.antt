@@ -17,7 +17,8 @@ use Rattle.arith.specs.Numbers.{numberOf, weightOf}
 use Rattle.trees.specs.Finished.{finished, treeOf}
 use Rattle.trees.specs.Written.{accepted, sound, some-node}
 use Rattle.tables.specs.Record.{Columns, tableIn}
-use Rattle.weigh.specs.Steps.{StandsFor, Good, Weighable, Summed}
+use Rattle.weigh.specs.Numbers.{StandsFor, Good}
+use Rattle.weigh.specs.Steps.{Weighable, Summed}
 use Rattle.weigh.proofs.Bounds.{stands-weight, stands-good}
 use Rattle.weigh.proofs.Sums.{sum-range}
 use Rattle.weigh.proofs.Sheets.{sheets-one}
@@ -26,7 +27,7 @@ use Rattle.weigh.proofs.Node.{tree-few}
 
 module _ {a n symbols count : ℕ} {finals : List ℕ} {c : Columns} {tree : List ℕ} {before : List ℤ} (weighable : Weighable a n symbols count finals c tree before) where
   -- a tree has a root
-  pub tree-some : 1 ≤ length tree
+  tree-some : 1 ≤ length tree
   tree-some =
       let written = sound (take symbols (c .ranks)) tree (length tree) (weighable .accepted) in
       let some = some-node (treeOf (take symbols (c .ranks)) tree) in

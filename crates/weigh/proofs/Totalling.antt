@@ -9,7 +9,7 @@ use Rattle.theory.specs.Sum.{sum}
 use Rattle.theory.specs.Below.{below}
 use Rattle.theory.specs.Arithmetic.{arithmetic, Weight, meaning}
 use Rattle.arith.specs.Numbers.{numberOf, weightOf}
-use Rattle.weigh.specs.Steps.{StandsFor}
+use Rattle.weigh.specs.Numbers.{StandsFor}
 use Rattle.weigh.proofs.Bounds.{stands-sum, stands-zero}
 use Rattle.weigh.proofs.Sums.{sum-more}
 

@@ -13,7 +13,7 @@ use Rattle.theory.specs.Semiring.{Semiring}
 use Rattle.theory.specs.Sum.{sum}
 use Rattle.theory.specs.Below.{upFrom}
 use Rattle.tables.specs.Record.{Columns, rowAt, rowsFrom}
-use Rattle.weigh.specs.Steps.{Begins, Rising}
+use Rattle.weigh.specs.Index.{Begins, Rising}
 
 pub length-rows : (c : Columns) (m k : ℕ) → length (rowsFrom c m k) ≡ k
 unfolding rowsFrom

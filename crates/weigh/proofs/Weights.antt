@@ -14,7 +14,7 @@ use Rattle.theory.specs.Weight.{weightAt}
 use Rattle.trees.specs.Forests.{takeTrees, dropTrees}
 use Rattle.trees.specs.Finished.{finished, prefixes-finished}
 use Rattle.trees.specs.Subtrees.{subtree}
-use Rattle.weigh.specs.Steps.{Bounded}
+use Rattle.weigh.specs.Numbers.{Bounded}
 
 -- a subtree has no more nodes than there are bytes
 subtree-few : (ranks tree : List ℕ) (i : ℕ) → i < length tree → length (prefix (subtree ranks tree i)) ≤ length tree

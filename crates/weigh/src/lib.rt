@@ -15,7 +15,10 @@ ghost use Rattle.trees.specs.Read.{treeRead};
 ghost use Rattle.tables.specs.Record.{columns, tableIn, tableOf};
 ghost use Rattle.arith.specs.Numbers.{numberOf, weightOf};
 ghost use Rattle.weigh.specs.Promise.{refused as refusing, withTree, answered, filled, Weighed};
-ghost use Rattle.weigh.specs.Steps.{StandsFor, Good, Replaced, Begins, Rising, sources, productOf, sumInto, Sized, Ready, Added, RowReady, Held, Weighable, Summed};
+ghost use Rattle.weigh.specs.Numbers.{StandsFor, Good};
+ghost use Rattle.weigh.specs.Index.{Begins, Rising};
+ghost use Rattle.weigh.specs.Rows.{rowOf, sources, productOf, sumInto, Sized, Ready, Added, RowReady};
+ghost use Rattle.weigh.specs.Steps.{Replaced, Held, Weighable, Summed};
 
 // Done with the number of nodes, and the tree's weight; or refused, with weight 0 and none given.
 pub struct Weighing {
@@ -24,7 +27,8 @@ pub struct Weighing {
     pub given: bool,
 }
 
-// Weighs a tree by a table. Done, the sheet holds at node × n + state the weight of the node's subtree at that state.
+// Weighs a tree by a table. Done, the sheet holds at node × n + state the weight of the node's subtree at that state. It takes some
+// 170 KB of stack: the record and its copies, the transitions' numbers and the offsets.
 pub fn weigh(table: &[u8], tree: &[u8], sheet: &mut [i64]) -> Weighing
     ensures { λ r. ⌜ Weighed (now (table .entry)) (now (tree .entry)) (now (sheet .entry)) r (now (sheet .exit)) ⌝ }
 {
@@ -36,6 +40,7 @@ pub fn weigh(table: &[u8], tree: &[u8], sheet: &mut [i64]) -> Weighing
     }
 }
 
+// There is no weight.
 fn refused(refusal: Refusal) -> Weighing
     ensures { λ r. ⌜ r ≡ answered (refusing refusal) ⌝ }
 {
@@ -46,6 +51,7 @@ fn refused(refusal: Refusal) -> Weighing
     }
 }
 
+// Weighs a tree by a table that was read.
 fn weigh_tree(t: TableRecord, tree: &[u8], sheet: &mut [i64]) -> Weighing
     requires { ⌜ Held t ⌝ }
     ensures { λ r. ⌜ (r ≡ answered (withTree (tableOf t) (now (tree .entry)) (length (now (sheet .entry))) (treeRead (tableOf t .ranks) (now (tree .entry)))))
@@ -83,18 +89,6 @@ fn weigh_tree(t: TableRecord, tree: &[u8], sheet: &mut [i64]) -> Weighing
     }
 }
 
-fn wide(byte: u8) -> usize
-    ensures { λ r. ⌜ (r ≡ byte) × (r < 256) ⌝ }
-{
-    byte as usize
-}
-
-fn wider(number: u16) -> usize
-    ensures { λ r. ⌜ (r ≡ number) × (r < 65536) ⌝ }
-{
-    number as usize
-}
-
 // Fills the rows from the last node to the first, and gives back the tree's weight. On the stack, from `top` on, are the offsets of the
 // subtrees that have no parent yet.
 fn weigh_nodes<'a>(
@@ -123,28 +117,45 @@ fn weigh_nodes<'a>(
     let mut at = tree.len();
     while 0 < at {
         at -= 1;
-        let own = wide(tree[at]);
-        let rank = wide(ranks[own]);
-        let from = wider(begins[own]);
-        let to = wider(begins[own + 1]);
+        let row = row_of(at, top, ranks, &begins, tree);
         fill_row(
             arithmetic,
             states,
-            rank,
-            from,
-            to,
-            at,
-            top,
+            row,
             children,
             target,
             &stack,
             &numbers,
             sheet,
         );
-        top = top + rank - 1;
+        top = top + row.rank - 1;
         stack[top] = at as u16;
     }
     root_weight(arithmetic, states, finals, sheet)
+}
+
+// The row of a node: its offset, its rank, where its children stand on the stack, and which transitions are its symbol's.
+struct Row {
+    at: usize,
+    rank: usize,
+    top: usize,
+    from: usize,
+    to: usize,
+}
+
+fn row_of(at: usize, top: usize, ranks: &[u8; 128], begins: &[u16; 129], tree: &[u8]) -> Row
+    requires { ⌜ (at < length (now tree)) × (getD (now tree) at 0 < 128) × (length (now ranks) ≡ 128) × (length (now begins) ≡ 129) ⌝ }
+    ensures { λ r. ⌜ r ≡ rowOf at top (now (ranks .entry)) (now (begins .entry)) (now (tree .entry)) ⌝ }
+{
+    let symbol = wide(tree[at]);
+    let next = symbol + 1;
+    Row {
+        at,
+        rank: wide(ranks[symbol]),
+        top,
+        from: wider(begins[symbol]),
+        to: wider(begins[next]),
+    }
 }
 
 // The numbers of the transitions' weights.
@@ -173,7 +184,7 @@ fn index_symbols(symbols: usize, count: usize, symbol: &[u8; 4000], begins: &mut
     }
 }
 
-// The first transition from j on whose symbol is not below s.
+// The first transition from `from` on whose symbol is not below s.
 fn begin_of(count: usize, symbol: &[u8; 4000], s: usize, from: usize) -> usize
     requires { ⌜ (count ≤ 4000) × (length (now symbol) ≡ 4000) × Rising (now symbol) count × (from ≤ count) × ((i : ℕ) → i < from → getD (now symbol) i 0 < s) ⌝ }
     ensures { λ r. ⌜ Begins (now (symbol .entry)) count s r ⌝ }
@@ -188,34 +199,29 @@ fn begin_of(count: usize, symbol: &[u8; 4000], s: usize, from: usize) -> usize
     j
 }
 
-// The row of node `at`: at each state the sum over the transitions from `from` up to `to` with that target.
+// At each state of the row the sum over the transitions with that target.
 fn fill_row(
     arithmetic: u32,
     states: usize,
-    rank: usize,
-    from: usize,
-    to: usize,
-    at: usize,
-    top: usize,
+    row: Row,
     children: &[u8; 16000],
     target: &[u8; 4000],
     stack: &[u16; 4096],
     numbers: &[i64; 4000],
     sheet: &mut [i64],
 )
-    requires { ⌜ Sized rank (sources states (now children) (now stack) top (now numbers) (now sheet)) × RowReady arithmetic (sources states (now children) (now stack) top (now numbers) (now sheet)) (now target) rank from to at ⌝ }
-    ensures { λ _. ⌜ Replaced (pos 0) (at * states) states (λ q. StandsFor arithmetic 16385 (sumInto arithmetic (sources states (now (children .entry)) (now (stack .entry)) top (now (numbers .entry)) (now (sheet .entry))) (now (target .entry)) rank from to q)) (now (sheet .entry)) (now (sheet .exit)) ⌝ }
+    requires { ⌜ Sized (row .rank) (sources states (now children) (now stack) (row .top) (now numbers) (now sheet)) × RowReady arithmetic (sources states (now children) (now stack) (row .top) (now numbers) (now sheet)) (now target) row ⌝ }
+    ensures { λ _. ⌜ Replaced (pos 0) (row .at * states) states (λ q. StandsFor arithmetic 16385 (sumInto arithmetic (sources states (now (children .entry)) (now (stack .entry)) (row .top) (now (numbers .entry)) (now (sheet .entry))) (now (target .entry)) (row .rank) (row .from) (row .to) q)) (now (sheet .entry)) (now (sheet .exit)) ⌝ }
 {
-    clear_row(arithmetic, states, at, sheet);
-    let mut j = from;
+    clear_row(arithmetic, states, row.at, sheet);
+    let to = row.to;
+    let mut j = row.from;
     while j < to {
         add_transition(
             arithmetic,
             states,
-            rank,
             j,
-            at,
-            top,
+            row,
             children,
             target,
             stack,
@@ -243,32 +249,30 @@ fn clear_row(arithmetic: u32, states: usize, at: usize, sheet: &mut [i64])
 fn add_transition(
     arithmetic: u32,
     states: usize,
-    rank: usize,
     j: usize,
-    at: usize,
-    top: usize,
+    row: Row,
     children: &[u8; 16000],
     target: &[u8; 4000],
     stack: &[u16; 4096],
     numbers: &[i64; 4000],
     sheet: &mut [i64],
 )
-    requires { ⌜ Sized rank (sources states (now children) (now stack) top (now numbers) (now sheet)) × Ready arithmetic (sources states (now children) (now stack) top (now numbers) (now sheet)) rank j
-        × (length (now target) ≡ 4000) × (at * states + getD (now target) j 0 < length (now sheet)) × Good arithmetic 16385 (getD (now sheet) (at * states + getD (now target) j 0) (pos 0)) ⌝ }
-    ensures { λ _. ⌜ Added arithmetic (sources states (now (children .entry)) (now (stack .entry)) top (now (numbers .entry)) (now (sheet .entry))) rank j (at * states + getD (now (target .entry)) j 0) (now (sheet .exit)) ⌝ }
+    requires { ⌜ Sized (row .rank) (sources states (now children) (now stack) (row .top) (now numbers) (now sheet)) × Ready arithmetic (sources states (now children) (now stack) (row .top) (now numbers) (now sheet)) (row .rank) j
+        × (length (now target) ≡ 4000) × (row .at * states + getD (now target) j 0 < length (now sheet)) × Good arithmetic 16385 (getD (now sheet) (row .at * states + getD (now target) j 0) (pos 0)) ⌝ }
+    ensures { λ _. ⌜ Added arithmetic (sources states (now (children .entry)) (now (stack .entry)) (row .top) (now (numbers .entry)) (now (sheet .entry))) (row .rank) j (row .at * states + getD (now (target .entry)) j 0) (now (sheet .exit)) ⌝ }
 {
     let x = product_of(
         arithmetic,
         states,
-        rank,
         j,
-        top,
+        row.rank,
+        row.top,
         children,
         stack,
         numbers,
         sheet,
     );
-    let place = at * states + wide(target[j]);
+    let place = row.at * states + wide(target[j]);
     sheet[place] = arith::sum(arithmetic, sheet[place], x);
 }
 
@@ -276,8 +280,8 @@ fn add_transition(
 fn product_of(
     arithmetic: u32,
     states: usize,
-    rank: usize,
     j: usize,
+    rank: usize,
     top: usize,
     children: &[u8; 16000],
     stack: &[u16; 4096],
@@ -319,4 +323,16 @@ fn root_weight(arithmetic: u32, states: usize, finals: &[u32; 256], sheet: &[i64
         q += 1;
     }
     x
+}
+
+fn wide(byte: u8) -> usize
+    ensures { λ r. ⌜ (r ≡ byte) × (r < 256) ⌝ }
+{
+    byte as usize
+}
+
+fn wider(number: u16) -> usize
+    ensures { λ r. ⌜ (r ≡ number) × (r < 65536) ⌝ }
+{
+    number as usize
 }

@@ -10,36 +10,29 @@ use Rattle.arith.proofs.sum.Tie as tie
 stand : (c : tie.Then1) → Stands 0 (c .before .args .a) × Stands 0 (c .before .args .b)
 stand c = rw (c .if1 .taken) at (c .before .pre)
 
--- src/lib.rt:44:43
 cast-wrapping-add-u32 : tie.Need-cast-wrapping-add-u32
 cast-wrapping-add-u32 c = narrows (c .before .args .a) (c .before .fits .a) (stand c .0)
 
--- src/lib.rt:44:53
 cast-wrapping-add-u32-2 : tie.Need-cast-wrapping-add-u32-2
 cast-wrapping-add-u32-2 c = narrows (c .before .args .b) (c .before .fits .b) (stand c .1)
 
--- src/lib.rt:44:16
 wrapping-add-u32-requires : tie.Need-wrapping-add-u32-requires
 wrapping-add-u32-requires c κs = search needs
 
--- src/lib.rt:44:16
 cast-result : tie.Need-cast-result
 cast-result c = search needs
 
--- src/lib.rt:44:9
 returns : tie.Need-returns
 returns c =
     let s = c .before .before in
     rw (c .before .if1 .taken)
     (sum-modular (s .args .a) (s .args .b) (s .fits .a) (s .fits .b) (stand (c .before) .0) (stand (c .before) .1) (c .wrapping-add-u32 .result) (c .wrapping-add-u32 .ensures))
 
--- src/lib.rt:39:1
 returns-2 : tie.Need-returns-2
 returns-2 c =
     let s = c .before .before in
     sum-right (s .args .a) (s .args .b) (s .fits .a) (s .fits .b) (s .args .arithmetic) (c .before .if1 .left) (c .if2 .taken)
 
--- src/lib.rt:39:1
 returns-3 : tie.Need-returns-3
 returns-3 c =
     let s = c .before .before in

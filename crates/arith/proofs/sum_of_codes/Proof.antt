@@ -6,24 +6,19 @@ use Rattle.arith.proofs.Sums.{code-modular, code-right, code-left}
 use Rattle.arith.proofs.sum_of_codes.Statement.{statement}
 use Rattle.arith.proofs.sum_of_codes.Tie as tie
 
--- src/lib.rt:16:9
 wrapping-add-u32-requires : tie.Need-wrapping-add-u32-requires
 wrapping-add-u32-requires c κs = search needs
 
--- src/lib.rt:16:9
 returns : tie.Need-returns
 returns c =
     rw (c .before .if1 .taken) (code-modular (c .before .before .args .a) (c .before .before .args .b) (c .wrapping-add-u32 .result) (c .wrapping-add-u32 .ensures))
 
--- src/lib.rt:18:8
 number-of-code-requires : tie.Need-number-of-code-requires
 number-of-code-requires c κs = search needs
 
--- src/lib.rt:18:31
 number-of-code-requires-2 : tie.Need-number-of-code-requires-2
 number-of-code-requires-2 c κs = search needs
 
--- src/lib.rt:12:1
 returns-2 : tie.Need-returns-2
 returns-2 c =
     let s = c .before .before .before .before in
@@ -31,7 +26,6 @@ returns-2 c =
     let y = c .before .number-of-code2 in
     code-right (s .args .a) (s .args .b) (omega arith) (omega arith) (x .result) (y .result) (record { sfits = x .ok }) (record { sfits = y .ok }) (x .ensures) (y .ensures) (s .args .arithmetic) (c .before .before .before .if1 .left) (c .if2 .taken)
 
--- src/lib.rt:12:1
 returns-3 : tie.Need-returns-3
 returns-3 c =
     let s = c .before .before .before .before in

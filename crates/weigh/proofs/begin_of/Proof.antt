@@ -15,19 +15,15 @@ Inv-loop count symbol s from j₀ j =
 abbrev μ-loop : tie.MeasureT-loop
 μ-loop count symbol s from j₀ j = count - j
 
--- src/lib.rt:143:5
 loop-holds : tie.Need-loop-holds Inv-loop μ-loop
 loop-holds c = (c .pre .3, c .pre .4)
 
--- src/lib.rt:144:22
 element-copy-out-wide : tie.Need-element-copy-out-wide Inv-loop μ-loop
 element-copy-out-wide c = search needs
 
--- src/lib.rt:144:17
 wide-requires : tie.Need-wide-requires Inv-loop μ-loop
 wide-requires c κs = search needs
 
--- src/lib.rt:145:13
 returns : tie.Need-returns Inv-loop μ-loop
 returns c =
     let s = c .before .before .before .before .before in
@@ -36,15 +32,12 @@ returns c =
     let own = c .before .wide .ensures .0 in
     record { within = l .inv .0; below = l .inv .1; above = λ i later inside. let rising = s .pre .2 (l .j) i later inside in omega arith }
 
--- src/lib.rt:147:9
 add-j : tie.Need-add-j Inv-loop μ-loop
 add-j c = search needs
 
--- src/lib.rt:143:5
 loop-less : tie.Need-loop-less Inv-loop μ-loop
 loop-less c = search needs
 
--- src/lib.rt:143:5
 loop-again : tie.Need-loop-again Inv-loop μ-loop
 loop-again c =
     let l = c .before .before .before .before .loop in
@@ -52,7 +45,6 @@ loop-again c =
     let lower = c .if1 .left in
     (search needs, below-more _ (l .j) (l .inv .1) (omega arith))
 
--- src/lib.rt:138:1
 returns-2 : tie.Need-returns-2 Inv-loop μ-loop
 returns-2 c =
     let l = c .before .loop in

@@ -6,7 +6,8 @@ use native.Mathlib.Omega.{arith}
 use lib.IntN.{pos}
 use lib.ListN.{length}
 use Rattle.theory.specs.Arithmetic.{arithmetic as semiring}
-use Rattle.weigh.specs.Steps.{StandsFor, Replaced}
+use Rattle.weigh.specs.Numbers.{StandsFor}
+use Rattle.weigh.specs.Steps.{Replaced}
 use Rattle.weigh.proofs.Bounds.{carried, stands-zero}
 use Rattle.weigh.proofs.Replacing.{replaced-none, replaced-more, replaced-all}
 use borrow.Author.Needs.{needs}
@@ -29,39 +30,30 @@ inside c =
     let more = c .loop-test .taken in
     (omega arith, omega arith)
 
--- src/lib.rt:170:9
 number-of-code-requires : tie.Need-number-of-code-requires Inv-loop μ-loop
 number-of-code-requires c κs = search needs
 
--- src/lib.rt:172:5
 loop-holds : tie.Need-loop-holds Inv-loop μ-loop
 loop-holds c = (omega arith, replaced-none (pos 0) _ _ _)
 
--- src/lib.rt:173:15
 mul-zero : tie.Need-mul-zero Inv-loop μ-loop
 mul-zero c = let inside = inside c in omega arith
 
--- src/lib.rt:173:15
 add-zero : tie.Need-add-zero Inv-loop μ-loop
 add-zero c = let inside = inside c in omega arith
 
--- src/lib.rt:173:9
 mul-zero-2 : tie.Need-mul-zero-2 Inv-loop μ-loop
 mul-zero-2 c = let inside = inside c in omega arith
 
--- src/lib.rt:173:9
 slice-set-from-zero : tie.Need-slice-set-from-zero Inv-loop μ-loop
 slice-set-from-zero c = inside c .0
 
--- src/lib.rt:174:9
 add-q : tie.Need-add-q Inv-loop μ-loop
 add-q c = search needs
 
--- src/lib.rt:172:5
 loop-less : tie.Need-loop-less Inv-loop μ-loop
 loop-less c = search needs
 
--- src/lib.rt:172:5
 loop-again : tie.Need-loop-again Inv-loop μ-loop
 loop-again c =
     let a = c .before .before .before .args in
@@ -72,11 +64,9 @@ loop-again c =
           (rw (carried (z .result) (z .ok)) (stands-zero (a .arithmetic) 16385 (z .result) (z .ensures))),
     )
 
--- src/lib.rt:166:1
 same-length : tie.Need-same-length Inv-loop μ-loop
 same-length c = c .before .loop .inv .1 .same-length
 
--- src/lib.rt:166:1
 returns : tie.Need-returns Inv-loop μ-loop
 returns c =
     let so-far = c .before .loop .inv in

@@ -5,7 +5,8 @@ use native.Mathlib.Omega.{arith}
 use lib.IntN.{pos}
 use lib.ListN.{getD}
 use Rattle.theory.specs.Arithmetic.{meaning}
-use Rattle.weigh.specs.Steps.{StandsFor, Replaced}
+use Rattle.weigh.specs.Numbers.{StandsFor}
+use Rattle.weigh.specs.Steps.{Replaced}
 use Rattle.weigh.proofs.Bounds.{carried, stands-code}
 use Rattle.weigh.proofs.Replacing.{replaced-none, replaced-more, replaced-all}
 use borrow.Author.Needs.{needs}
@@ -19,39 +20,30 @@ Inv-loop arithmetic count code numbers₀ j₀ numbers j =
 abbrev μ-loop : tie.MeasureT-loop
 μ-loop arithmetic count code numbers₀ j₀ numbers j = count - j
 
--- src/lib.rt:117:5
 loop-holds : tie.Need-loop-holds Inv-loop μ-loop
 loop-holds c = (omega arith, replaced-none (pos 0) _ _ _)
 
--- src/lib.rt:118:56
 mul-number-of-code : tie.Need-mul-number-of-code Inv-loop μ-loop
 mul-number-of-code c = search needs
 
--- src/lib.rt:118:56
 element-copy-out-number-of-code : tie.Need-element-copy-out-number-of-code Inv-loop μ-loop
 element-copy-out-number-of-code c = search needs
 
--- src/lib.rt:118:22
 number-of-code-requires : tie.Need-number-of-code-requires Inv-loop μ-loop
 number-of-code-requires c κs = search needs
 
--- src/lib.rt:118:9
 mul-t12 : tie.Need-mul-t12 Inv-loop μ-loop
 mul-t12 c = search needs
 
--- src/lib.rt:118:9
 element-set-from-numbers : tie.Need-element-set-from-numbers Inv-loop μ-loop
 element-set-from-numbers c = search needs
 
--- src/lib.rt:119:9
 add-j : tie.Need-add-j Inv-loop μ-loop
 add-j c = search needs
 
--- src/lib.rt:117:5
 loop-less : tie.Need-loop-less Inv-loop μ-loop
 loop-less c = search needs
 
--- src/lib.rt:117:5
 loop-again : tie.Need-loop-again Inv-loop μ-loop
 loop-again c =
     let a = c .before .before .before .before .args in
@@ -67,7 +59,6 @@ loop-again c =
           (rw (carried (z .result) (z .ok)) (stands-code (a .arithmetic) (getD (a .code .now) (l .j) 0) (pre .3 (l .j) more) (z .result) (z .ensures))),
     )
 
--- src/lib.rt:112:1
 returns : tie.Need-returns Inv-loop μ-loop
 returns c =
     let so-far = c .before .loop .inv in

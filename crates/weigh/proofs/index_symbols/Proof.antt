@@ -4,7 +4,8 @@
 use Prim.Native.Nat.{ℕ, _+_, _-_, _≤_, _<_}
 use native.Mathlib.Omega.{arith}
 use lib.ListN.{getD}
-use Rattle.weigh.specs.Steps.{Replaced, Begins}
+use Rattle.weigh.specs.Index.{Begins}
+use Rattle.weigh.specs.Steps.{Replaced}
 use Rattle.weigh.proofs.Replacing.{replaced-none, replaced-more, replaced-all}
 use borrow.Author.Needs.{needs}
 use Rattle.weigh.proofs.index_symbols.Statement.{statement}
@@ -17,41 +18,33 @@ Inv-loop symbols count symbol begins₀ j₀ s₀ begins j s =
 abbrev μ-loop : tie.MeasureT-loop
 μ-loop symbols count symbol begins₀ j₀ s₀ begins j s = symbols + 1 - s
 
--- src/lib.rt:130:5
 loop-holds : tie.Need-loop-holds Inv-loop μ-loop
 loop-holds c = (omega arith, omega arith, λ i l. absurd (omega arith), replaced-none 0 0 _ _)
 
--- src/lib.rt:131:9
 begin-of-requires : tie.Need-begin-of-requires Inv-loop μ-loop
 begin-of-requires c κs =
     let pre = c .before .before .pre in
     let l = c .before .loop in
     (pre .1, pre .2, pre .4, l .inv .1, l .inv .2)
 
--- src/lib.rt:132:21
 cast-begins : tie.Need-cast-begins Inv-loop μ-loop
 cast-begins c =
     let few = c .before .before .before .pre .1 in
     let within = c .begin-of .ensures .within in
     omega arith
 
--- src/lib.rt:132:9
 mul-begins : tie.Need-mul-begins Inv-loop μ-loop
 mul-begins c = search needs
 
--- src/lib.rt:132:9
 element-write-begins : tie.Need-element-write-begins Inv-loop μ-loop
 element-write-begins c = search needs
 
--- src/lib.rt:133:9
 add-s : tie.Need-add-s Inv-loop μ-loop
 add-s c = search needs
 
--- src/lib.rt:130:5
 loop-less : tie.Need-loop-less Inv-loop μ-loop
 loop-less c = search needs
 
--- src/lib.rt:130:5
 loop-again : tie.Need-loop-again Inv-loop μ-loop
 loop-again c =
     let s = c .before .before .before in
@@ -67,7 +60,6 @@ loop-again c =
       replaced-more 0 0 _ (s .args .begins .now) (l .s) (l .s) (c .begin-of .result) (l .begins) (l .inv .3) (omega arith) (omega arith) begin,
     )
 
--- src/lib.rt:124:1
 returns : tie.Need-returns Inv-loop μ-loop
 returns c =
     let l = c .before .loop in

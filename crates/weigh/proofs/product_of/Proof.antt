@@ -7,18 +7,18 @@ use mir.Syntax.{w64}
 use mir.Val.{toZ}
 use native.Mathlib.Omega.{arith}
 use borrow.Author.Needs.{needs}
-use Rattle.weigh.specs.Steps.{Sources, sources, childPlace}
+use Rattle.weigh.specs.Rows.{Sources, sources, childPlace}
 use Rattle.weigh.proofs.Bounds.{carried}
 use Rattle.weigh.proofs.Multiplying.{Multiplying, multiplying-starts, factors-stand, multiplying-goes-on, multiplying-ends}
 use Rattle.weigh.proofs.product_of.Statement.{statement}
 use Rattle.weigh.proofs.product_of.Tie as tie
 
 abbrev Inv-loop : tie.InvT-loop
-Inv-loop arithmetic states rank j top children stack numbers sheet x₀ k₀ x k =
+Inv-loop arithmetic states j rank top children stack numbers sheet x₀ k₀ x k =
     Multiplying arithmetic (sources states children stack top numbers sheet) rank j k (toZ w64 x)
 
 abbrev μ-loop : tie.MeasureT-loop
-μ-loop arithmetic states rank j top children stack numbers sheet x₀ k₀ x k = rank - k
+μ-loop arithmetic states j rank top children stack numbers sheet x₀ k₀ x k = rank - k
 
 -- what the row is made of
 abbrev from : (c : tie.Start Inv-loop μ-loop) → Sources
@@ -37,68 +37,52 @@ inside c =
     rw (place c)
     (c .before .before .before .before .before .before .before .pre .1 .places _ (c .before .before .before .before .loop-test .taken))
 
--- src/lib.rt:196:17
 mul-x : tie.Need-mul-x Inv-loop μ-loop
 mul-x c = search needs
 
--- src/lib.rt:196:17
 element-copy-out-x : tie.Need-element-copy-out-x Inv-loop μ-loop
 element-copy-out-x c = search needs
 
--- src/lib.rt:198:5
 loop-holds : tie.Need-loop-holds Inv-loop μ-loop
 loop-holds c =
     rw (carried _ (c .x .given)) (multiplying-starts (c .before .args .arithmetic) (from (c .before)) (c .before .args .rank) (c .before .args .j) (c .before .pre .1 .own))
 
--- src/lib.rt:199:32
 add-wider : tie.Need-add-wider Inv-loop μ-loop
 add-wider c = search needs
 
--- src/lib.rt:199:26
 mul-wider : tie.Need-mul-wider Inv-loop μ-loop
 mul-wider c = search needs
 
--- src/lib.rt:199:26
 element-copy-out-wider : tie.Need-element-copy-out-wider Inv-loop μ-loop
 element-copy-out-wider c = search needs
 
--- src/lib.rt:199:13
 wider-requires : tie.Need-wider-requires Inv-loop μ-loop
 wider-requires c κs = search needs
 
--- src/lib.rt:200:35
 mul-wide : tie.Need-mul-wide Inv-loop μ-loop
 mul-wide c = search needs
 
--- src/lib.rt:200:35
 add-wide : tie.Need-add-wide Inv-loop μ-loop
 add-wide c = search needs
 
--- src/lib.rt:200:26
 element-copy-out-wide : tie.Need-element-copy-out-wide Inv-loop μ-loop
 element-copy-out-wide c = search needs
 
--- src/lib.rt:200:13
 wide-requires : tie.Need-wide-requires Inv-loop μ-loop
 wide-requires c κs = search needs
 
--- src/lib.rt:201:49
 mul-product : tie.Need-mul-product Inv-loop μ-loop
 mul-product c = let inside = inside c in omega arith
 
--- src/lib.rt:201:49
 add-product : tie.Need-add-product Inv-loop μ-loop
 add-product c = let inside = inside c in omega arith
 
--- src/lib.rt:201:43
 mul-product-2 : tie.Need-mul-product-2 Inv-loop μ-loop
 mul-product-2 c = let inside = inside c in search needs
 
--- src/lib.rt:201:43
 shared-slice-copy-out-product : tie.Need-shared-slice-copy-out-product Inv-loop μ-loop
 shared-slice-copy-out-product c = inside c
 
--- src/lib.rt:201:9
 product-requires : tie.Need-product-requires Inv-loop μ-loop
 product-requires c κs =
     let s = c .before .before .before .before .before .before .before .before in
@@ -106,15 +90,12 @@ product-requires c κs =
     rw (carried _ (c .product-arg .given), place (c .before))
     (factors-stand (s .args .arithmetic) (from s) (s .args .rank) (s .args .j) (s .pre .0 .few-children) _ _ (c .before .before .before .before .before .before .loop .inv) more (s .pre .1 .child _ more))
 
--- src/lib.rt:202:9
 add-k : tie.Need-add-k Inv-loop μ-loop
 add-k c = search needs
 
--- src/lib.rt:198:5
 loop-less : tie.Need-loop-less Inv-loop μ-loop
 loop-less c = search needs
 
--- src/lib.rt:198:5
 loop-again : tie.Need-loop-again Inv-loop μ-loop
 loop-again c =
     let s = c .before .before .before .before .before .before .before .before .before in
@@ -123,7 +104,6 @@ loop-again c =
     (multiplying-goes-on (s .args .arithmetic) (from s) (s .args .rank) (s .args .j) (s .pre .0 .few-children) _ _ (c .before .before .before .before .before .before .before .loop .inv) more (s .pre .1 .child _ more) (c .product .result)
     (rw (carried _ (c .before .product-arg .given), place (c .before .before)) at (c .product .ensures)))
 
--- src/lib.rt:192:1
 returns : tie.Need-returns Inv-loop μ-loop
 returns c =
     let s = c .before .before .before in

@@ -8,7 +8,7 @@ use mir.Syntax.{w64}
 use mir.Val.{toZ}
 use Rattle.theory.specs.Arithmetic.{arithmetic as semiring, Weight, meaning}
 use Rattle.arith.specs.Numbers.{weightOf}
-use Rattle.weigh.specs.Steps.{StandsFor, Good}
+use Rattle.weigh.specs.Numbers.{StandsFor, Good}
 use Rattle.weigh.proofs.Bounds.{carried, stands-code, stands-number, product-inSheet, stands-product}
 use Rattle.weigh.proofs.Totalling.{Totalling, totalling-starts, totalling-goes-on, totalling-ends}
 use borrow.Author.Needs.{needs}
@@ -26,33 +26,26 @@ abbrev μ-loop : tie.MeasureT-loop
 abbrev part : (c : tie.Start Inv-loop μ-loop) → ℕ → Weight (c .args .arithmetic)
 part c p = (semiring (c .args .arithmetic)) .times (meaning (c .args .arithmetic) (getD (c .args .finals .now) p 0)) (weightOf (c .args .arithmetic) (getD (c .args .sheet .now) p (pos 0)))
 
--- src/lib.rt:213:9
 number-of-code-requires : tie.Need-number-of-code-requires Inv-loop μ-loop
 number-of-code-requires c κs = search needs
 
--- src/lib.rt:215:5
 loop-holds : tie.Need-loop-holds Inv-loop μ-loop
 loop-holds c =
     let a = c .before .args in
     rw (carried (c .number-of-code .result) (c .number-of-code .ok)) (totalling-starts (a .arithmetic) (a .states) (part (c .before)) (c .number-of-code .result) (c .number-of-code .ensures))
 
--- src/lib.rt:216:100
 mul-number-of-code : tie.Need-mul-number-of-code Inv-loop μ-loop
 mul-number-of-code c = search needs
 
--- src/lib.rt:216:100
 element-copy-out-number-of-code : tie.Need-element-copy-out-number-of-code Inv-loop μ-loop
 element-copy-out-number-of-code c = search needs
 
--- src/lib.rt:216:66
 number-of-code-requires-2 : tie.Need-number-of-code-requires-2 Inv-loop μ-loop
 number-of-code-requires-2 c κs = search needs
 
--- src/lib.rt:216:112
 mul-product : tie.Need-mul-product Inv-loop μ-loop
 mul-product c = search needs
 
--- src/lib.rt:216:112
 shared-slice-copy-out-product : tie.Need-shared-slice-copy-out-product Inv-loop μ-loop
 shared-slice-copy-out-product c = search needs
 
@@ -71,7 +64,6 @@ root-stands : (c : tie.After-product-arg Inv-loop μ-loop) →
     Good (a .arithmetic) 4096 (getD (a .sheet .now) (c .before .before .before .before .loop .q) (pos 0))
 root-stands c = c .before .before .before .before .before .before .pre .4 _ (c .before .before .before .loop-test .taken)
 
--- src/lib.rt
 product-requires : tie.Need-product-requires Inv-loop μ-loop
 product-requires c κs =
     let a = c .before .before .before .before .before .before .args .arithmetic in
@@ -91,22 +83,18 @@ part-stands c =
     stands-product a 1 4096 (omega arith) _ _ (z .result) _ (final-stands (c .before)) (root-stands (c .before)) (c .product .result)
     (rw (carried (z .result) (z .ok), carried _ (c .before .product-arg .given)) at (c .product .ensures))
 
--- src/lib.rt:216:9
 sum-requires : tie.Need-sum-requires Inv-loop μ-loop
 sum-requires c κs =
     let a = c .before .before .before .before .before .before .before .args .arithmetic in
     rw (carried (c .product .result) (c .product .ok))
     (stands-number a 4097 (omega arith) _ _ (c .before .before .before .before .before .loop .inv .stands), stands-number a 4097 (omega arith) _ _ (part-stands c))
 
--- src/lib.rt:217:9
 add-q : tie.Need-add-q Inv-loop μ-loop
 add-q c = search needs
 
--- src/lib.rt:215:5
 loop-less : tie.Need-loop-less Inv-loop μ-loop
 loop-less c = search needs
 
--- src/lib.rt:215:5
 loop-again : tie.Need-loop-again Inv-loop μ-loop
 loop-again c =
     let s = c .before .before .before .before .before .before .before .before in
@@ -115,7 +103,6 @@ loop-again c =
     (totalling-goes-on (s .args .arithmetic) (s .args .states) (part s) (l .q) _ (l .inv) (c .before .before .before .before .before .loop-test .taken) (c .before .product .result) (part-stands (c .before)) (c .sum .result)
     (rw (carried (c .before .product .result) (c .before .product .ok)) at (c .sum .ensures)))
 
--- src/lib.rt:208:1
 returns : tie.Need-returns Inv-loop μ-loop
 returns c =
     let s = c .before .before .before in

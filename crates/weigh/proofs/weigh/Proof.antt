@@ -13,15 +13,12 @@ use Rattle.weigh.proofs.weigh.Tie as tie
 read : (c : tie.After-enum-told) → ReadTable (tableRead (c .before .before .before .before .before .args .table .now)) (c .before .before .read .result .table)
 read c = table-read _ (c .before .before .read .result) _ (c .before .before .read .ensures) (c .enum-told .given .1)
 
--- src/lib.rt:31:9
 read-requires : tie.Need-read-requires
 read-requires c κs = search needs
 
--- src/lib.rt:34:60
 enum-told : tie.Need-enum-told
 enum-told c = search needs
 
--- src/lib.rt:34:28
 weigh-tree-requires : tie.Need-weigh-tree-requires
 weigh-tree-requires c κs =
     let k = c .before in
@@ -29,26 +26,21 @@ weigh-tree-requires c κs =
     let bytes = k .before .before .before .before .before .args .table .now in
     record { proper = table-sound bytes (λ i. let small = k .before .before .before .before .shared-slice-known .given i in omega arith) _ (table .end) (table .is-found) .0; symbols = table .symbols }
 
--- src/lib.rt:35:25
 enum-known-answer : tie.Need-enum-known-answer
 enum-known-answer c = search needs
 
--- src/lib.rt:35:37
 refused-requires : tie.Need-refused-requires
 refused-requires c κs = search needs
 
--- src/lib.rt:28:1
 same-length : tie.Need-same-length
 same-length c = search needs
 
--- src/lib.rt:28:1
 returns : tie.Need-returns
 returns c =
     let w = c .before .weigh-tree .ensures in
     let found = read (c .before .before .before) .is-found in
     record { answer = rw found (w .0); sheet = rw found (w .1) }
 
--- src/lib.rt:28:1
 returns-2 : tie.Need-returns-2
 returns-2 c =
     let k = c .before .before in

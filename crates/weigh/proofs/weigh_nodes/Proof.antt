@@ -1,17 +1,21 @@
 -- `weigh::weigh_nodes` meets its contract. The invariant is `Filling`.
 -- Assumes nothing.
-use Prim.Native.Nat.{ℕ, _+_, _-_, _≤_, _<_}
-use mathlib.Core.Path.{_≡_, refl, ap, _∙_, subst}
+use Prim.Native.Nat.{ℕ, _+_, _*_, _-_, _≤_, _<_}
+use mathlib.Core.Path.{_≡_, refl, sym, ap, _∙_, subst}
 use mathlib.Core.List.{List, []}
 use native.Mathlib.Omega.{arith}
 use lib.IntN.{ℤ, pos}
-use lib.ListN.{length, getD}
+use lib.ListN.{length, getD, set}
 use borrow.Author.Needs.{needs}
 use Rattle.model.specs.Table.{Table}
 use Rattle.theory.specs.Arithmetic.{meaning}
 use Rattle.arith.specs.Numbers.{numberOf}
 use Rattle.tables.specs.Record.{Columns, columns, tableIn}
-use Rattle.weigh.specs.Steps.{StandsFor, Begins, Sources, sources}
+use Rattle.weigh.specs.declared.Row.{Row}
+use Rattle.weigh.specs.Numbers.{StandsFor}
+use Rattle.weigh.specs.Index.{Begins}
+use Rattle.weigh.specs.Rows.{rowOf, Sources, sources, sumInto, Sized, RowReady}
+use Rattle.weigh.specs.Steps.{Replaced}
 use Rattle.weigh.proofs.Bounds.{carried}
 use Rattle.weigh.proofs.Replacing.{replaced-first}
 use Rattle.weigh.proofs.Transitions.{rising}
@@ -50,9 +54,14 @@ decoded c = replaced-first (pos 0) (entry c .args .count) _ _ (numbers-of c) (c 
 numbers-long : (c : tie.After-index-symbols Inv-loop μ-loop) → length (numbers-of c) ≡ 4000
 numbers-long c = c .before .before .decode .ensures .same-length
 
-indexed : (c : tie.After-index-symbols Inv-loop μ-loop) (s : ℕ) → s < entry c .args .symbols + 1
-    → Begins (entry c .args .symbol .now) (entry c .args .count) s (getD (c .index-symbols .last .1 .1 .1 .0) s 0)
-indexed c = replaced-first 0 (entry c .args .symbols + 1) _ _ (c .index-symbols .last .1 .1 .1 .0) (c .index-symbols .ensures)
+abbrev begins-of : tie.After-index-symbols Inv-loop μ-loop → List ℕ
+begins-of c = c .index-symbols .last .1 .1 .1 .0
+
+indexed : (c : tie.After-index-symbols Inv-loop μ-loop) (s : ℕ) → s < entry c .args .symbols + 1 → Begins (entry c .args .symbol .now) (entry c .args .count) s (getD (begins-of c) s 0)
+indexed c = replaced-first 0 (entry c .args .symbols + 1) _ _ (begins-of c) (c .index-symbols .ensures)
+
+begins-long : (c : tie.After-index-symbols Inv-loop μ-loop) → length (begins-of c) ≡ 129
+begins-long c = c .index-symbols .ensures .same-length
 
 -- the invariant in a turn, where `at` is the node before
 so-far : (c : tie.In-loop Inv-loop μ-loop) →
@@ -64,175 +73,115 @@ so-far c =
     let same : c .before .loop .at ≡ c .before .loop .at - 1 + 1 = omega arith in
     subst (λ (i : ℕ). Filling (table-of s) (s .args .tree .now) (s .args .sheet .now) (c .before .loop .sheet) (c .before .loop .stack) (c .before .loop .top) i) same (c .before .loop .inv)
 
-known : (c : tie.In-loop Inv-loop μ-loop) → getD (entry (c .before .before) .args .tree .now) (c .before .loop .at - 1) 0 < entry (c .before .before) .args .symbols
-known c = symbol-known (entry (c .before .before) .pre) (c .before .loop .at - 1) (so-far c)
-
--- the symbol of the node, its rank, and where its transitions stand
-own-symbol : (c : tie.After-wide Inv-loop μ-loop) → c .wide .result ≡ getD (entry (c .before .before .before .before) .args .tree .now) (c .before .before .before .loop .at - 1) 0
-own-symbol c = c .wide .ensures .0
-
-symbol-small : (c : tie.After-wide Inv-loop μ-loop) → c .wide .result < 128
+-- the node's row can be filled
+symbol-small : (c : tie.In-loop Inv-loop μ-loop) → getD (entry (c .before .before) .args .tree .now) (c .before .loop .at - 1) 0 < 128
 symbol-small c =
-    let less = known (c .before .before) in
-    let same = own-symbol c in
-    let few = symbols-few (entry (c .before .before .before .before) .pre) in
+    let pre = entry (c .before .before) .pre in
+    let known = symbol-known pre (c .before .loop .at - 1) (so-far c) in
+    let few = symbols-few pre in
     omega arith
 
-rank-read : (c : tie.After-wide2 Inv-loop μ-loop) →
-    let s = entry (c .before .before .before .before .before .before) in
-    c .wide2 .result ≡ getD (s .args .ranks .now) (getD (s .args .tree .now) (c .before .before .before .before .before .loop .at - 1) 0) 0
-rank-read c = rw (← own-symbol (c .before .before)) (c .wide2 .ensures .0)
+abbrev sources-of : tie.In-loop Inv-loop μ-loop → ℕ → Sources
+sources-of c top =
+    let s = entry (c .before .before) in
+    sources (s .args .states) (s .args .children .now) (c .before .loop .stack) top (numbers-of (c .before .before)) (c .before .loop .sheet)
 
-begins : (c : tie.After-wider2 Inv-loop μ-loop) →
-    let s = entry (c .before .before .before .before .before .before .before .before) in
-    Begins (s .args .symbol .now) (s .args .count) (getD (s .args .tree .now) (c .before .before .before .before .before .before .before .loop .at - 1) 0) (c .before .wider .result)
-begins c =
-    let symbol = own-symbol (c .before .before .before .before) in
-    let less = known (c .before .before .before .before .before .before) in
-    rw (← symbol, c .before .wider .ensures .0) (indexed (c .before .before .before .before .before .before .before .before) (c .before .before .before .before .wide .result) (omega arith))
+abbrev row-here : (c : tie.In-loop Inv-loop μ-loop) → Row
+row-here c =
+    let s = entry (c .before .before) in
+    rowOf (c .before .loop .at - 1) (c .before .loop .top) (s .args .ranks .now) (begins-of (c .before .before)) (s .args .tree .now)
 
-ends : (c : tie.After-wider2 Inv-loop μ-loop) →
-    let s = entry (c .before .before .before .before .before .before .before .before) in
-    Begins (s .args .symbol .now) (s .args .count) (getD (s .args .tree .now) (c .before .before .before .before .before .before .before .loop .at - 1) 0 + 1) (c .wider2 .result)
-ends c =
-    let symbol = own-symbol (c .before .before .before .before) in
-    let less = known (c .before .before .before .before .before .before) in
-    rw (← symbol, c .wider2 .ensures .0) (indexed (c .before .before .before .before .before .before .before .before) (c .before .before .before .before .wide .result + 1) (omega arith))
-
--- what the node's row is made of, and that it can be filled
-abbrev sources-of : tie.After-wider2 Inv-loop μ-loop → Sources
-sources-of c =
-    let s = entry (c .before .before .before .before .before .before .before .before) in
-    let l = c .before .before .before .before .before .before .before .loop in
-    sources (s .args .states) (s .args .children .now) (l .stack) (l .top) (numbers-of (c .before .before .before .before .before .before .before .before)) (l .sheet)
-
-node : (c : tie.After-wider2 Inv-loop μ-loop) →
-    let s = entry (c .before .before .before .before .before .before .before .before) in
-    NodeReady (table-of s) (s .args .tree .now) (sources-of c) (s .args .target .now) (c .before .before .wide2 .result) (c .before .wider .result) (c .wider2 .result) (c .before .before .before .before .before .before .before .loop .at - 1)
+node : (c : tie.In-loop Inv-loop μ-loop) →
+    let s = entry (c .before .before) in
+    NodeReady (table-of s) (s .args .tree .now) (sources-of c (c .before .loop .top)) (s .args .target .now) (row-here c)
 node c =
-    let i = c .before .before .before .before .before .before .before .before in
-    at-node (entry i .pre) (c .before .before .before .before .before .before .before .loop .at - 1) (so-far (c .before .before .before .before .before .before)) (numbers-of i)
-    (rank-read (c .before .before)) (begins c) (ends c) (decoded i) (numbers-long i)
+    let i = c .before .before in
+    at-node (entry i .pre) (c .before .loop .at - 1) (so-far c) (numbers-of i) (begins-of i) (indexed i) (decoded i) (numbers-long i)
 
--- there is room on the stack for the node
-stack-some : (c : tie.After-wider2 Inv-loop μ-loop) → 1 ≤ c .before .before .before .before .before .before .before .loop .top + c .before .before .wide2 .result
-stack-some c =
-    let s = entry (c .before .before .before .before .before .before .before .before) in
-    let room = filling-room (s .pre .room) (c .before .before .before .before .before .before .before .loop .inv) (tree-few (s .pre)) in
-    let more = c .before .before .before .before .before .before .loop-test .taken in
-    omega arith
+-- the stack has room for the node in place of its children
+stacked : (c : tie.After-row-of Inv-loop μ-loop) →
+    let top = c .before .before .before .loop .top in
+    (1 ≤ top + c .row-of .result .rank) × (top + c .row-of .result .rank ≤ 4096)
+stacked c =
+    let s = entry (c .before .before .before .before) in
+    let room = filling-room (s .pre .room) (c .before .before .before .loop .inv) (tree-few (s .pre)) in
+    let more = c .before .before .loop-test .taken in
+    let enough = node (c .before .before) .sized .on-stack in
+    let same = ap (λ (r : Row). r .rank) (c .row-of .ensures) in
+    (omega arith, omega arith)
 
--- src/lib.rt:92:5
 decode-requires : tie.Need-decode-requires Inv-loop μ-loop
 decode-requires c κs =
     let pre = c .before .before .pre in
     (transitions-few pre, pre .long .code, refl, λ j l. row-proper pre j l .code-fits)
 
--- src/lib.rt:94:5
 index-symbols-requires : tie.Need-index-symbols-requires Inv-loop μ-loop
 index-symbols-requires c κs =
     let s = c .before .before .before .before in
     let pre = s .pre in
     (symbols-few pre, transitions-few pre, pre .long .symbol, refl, rising (columns-of s) [] (s .args .count) (pre .proper .ascending))
 
--- src/lib.rt:98:5
 loop-holds : tie.Need-loop-holds Inv-loop μ-loop
 loop-holds c =
     let s = entry c in
     filling-starts (table-of s) (s .args .tree .now) (s .args .sheet .now) (s .pre .room)
 
--- src/lib.rt:99:9
 sub-at : tie.Need-sub-at Inv-loop μ-loop
 sub-at c = search needs
 
--- src/lib.rt:100:24
-shared-slice-read-wide : tie.Need-shared-slice-read-wide Inv-loop μ-loop
-shared-slice-read-wide c = search needs
+row-of-requires : tie.Need-row-of-requires Inv-loop μ-loop
+row-of-requires c κs =
+    let i = c .before .before .before in
+    let some = c .before .before .loop .inv .some in
+    let more = c .before .loop-test .taken in
+    (omega arith, symbol-small (c .before), entry i .pre .long .ranks, begins-long i)
 
--- src/lib.rt:100:13
-wide-requires : tie.Need-wide-requires Inv-loop μ-loop
-wide-requires c κs = search needs
-
--- src/lib.rt:101:25
-element-copy-out-wide : tie.Need-element-copy-out-wide Inv-loop μ-loop
-element-copy-out-wide c = symbol-small c
-
--- src/lib.rt:101:13
-wide-requires-2 : tie.Need-wide-requires-2 Inv-loop μ-loop
-wide-requires-2 c κs = search needs
-
--- src/lib.rt:102:26
-mul-wider : tie.Need-mul-wider Inv-loop μ-loop
-mul-wider c = search needs
-
--- src/lib.rt:102:26
-array-read-wider : tie.Need-array-read-wider Inv-loop μ-loop
-array-read-wider c = let small = symbol-small (c .before .before) in omega arith
-
--- src/lib.rt:102:13
-wider-requires : tie.Need-wider-requires Inv-loop μ-loop
-wider-requires c κs = search needs
-
--- src/lib.rt:103:31
-add-wider : tie.Need-add-wider Inv-loop μ-loop
-add-wider c = search needs
-
--- src/lib.rt:103:24
-mul-wider-2 : tie.Need-mul-wider-2 Inv-loop μ-loop
-mul-wider-2 c = search needs
-
--- src/lib.rt:103:24
-array-read-wider-2 : tie.Need-array-read-wider-2 Inv-loop μ-loop
-array-read-wider-2 c = let small = symbol-small (c .before .before .before) in omega arith
-
--- src/lib.rt:103:13
-wider-requires-2 : tie.Need-wider-requires-2 Inv-loop μ-loop
-wider-requires-2 c κs = search needs
-
--- src/lib.rt:104:9
 fill-row-requires : tie.Need-fill-row-requires Inv-loop μ-loop
-fill-row-requires c κs = (node (c .before .before .before) .sized, node (c .before .before .before) .ready)
+fill-row-requires c κs =
+    let w = c .before .before .before in
+    let s = entry (w .before .before .before .before) in
+    let here = node (w .before .before) in
+    subst (λ (r : Row). Sized (r .rank) (sources-of (w .before .before) (r .top)) × RowReady (s .args .arithmetic) (sources-of (w .before .before) (r .top)) (s .args .target .now) r)
+    (sym (w .row-of .ensures)) (here .sized, here .ready)
 
--- src/lib.rt:105:15
 add-top : tie.Need-add-top Inv-loop μ-loop
-add-top c = search needs
+add-top c = let room = stacked (c .before .before .before .before .before .before) in omega arith
 
--- src/lib.rt:105:15
 sub-top : tie.Need-sub-top Inv-loop μ-loop
-sub-top c = stack-some (c .before .before .before .before .before)
+sub-top c = stacked (c .before .before .before .before .before .before) .0
 
--- src/lib.rt:106:22
 cast-stack : tie.Need-cast-stack Inv-loop μ-loop
 cast-stack c =
-    let some = c .before .before .before .before .before .before .before .before .before .before .before .before .loop .inv .some in
-    let few = tree-few (entry (c .before .before .before .before .before .before .before .before .before .before .before .before .before) .pre) in
+    let l = c .before .before .before .before .before .before .before .before .before in
+    let some = l .loop .inv .some in
+    let few = tree-few (entry (l .before) .pre) in
     omega arith
 
--- src/lib.rt:106:9
 mul-stack : tie.Need-mul-stack Inv-loop μ-loop
-mul-stack c = search needs
+mul-stack c = let room = stacked (c .before .before .before .before .before .before) in omega arith
 
--- src/lib.rt:106:9
 array-write-stack : tie.Need-array-write-stack Inv-loop μ-loop
-array-write-stack c =
-    let some = stack-some (c .before .before .before .before .before) in
-    let room = node (c .before .before .before .before .before) .sized .on-stack in
-    omega arith
+array-write-stack c = let room = stacked (c .before .before .before .before .before .before) in omega arith
 
--- src/lib.rt:98:5
 loop-less : tie.Need-loop-less Inv-loop μ-loop
 loop-less c = search needs
 
--- src/lib.rt:98:5
 loop-again : tie.Need-loop-again Inv-loop μ-loop
 loop-again c =
-    let w = c .before .before .before .before .before in
-    let s = entry (w .before .before .before .before .before .before .before .before) in
-    let here = node w in
-    filling-goes-on (w .before .before .before .before .before .before .before .loop .at - 1) (s .pre .room) (so-far (w .before .before .before .before .before .before)) (here .rank-is) (stack-some w) (here .sized .on-stack) (c .before .fill-row .ensures)
-    (λ q x l h. h .number ∙ ap (numberOf (s .args .arithmetic)) (here .weights q))
+    let w = c .before .before .before .before .before .before in
+    let k = w .before .before in
+    let s = entry (k .before .before) in
+    let l = k .before .loop in
+    let here = node k in
+    let room = stacked w in
+    let same = ap (λ (r : Row). r .rank) (w .row-of .ensures) in
+    let later = c .before .before .fill-row .last .1 .1 .1 .1 .1 .1 .1 .0 in
+    let filled = subst (λ (r : Row). Replaced (pos 0) (r .at * s .args .states) (s .args .states)
+    (λ q. StandsFor (s .args .arithmetic) 16385 (sumInto (s .args .arithmetic) (sources-of k (r .top)) (s .args .target .now) (r .rank) (r .from) (r .to) q)) (l .sheet) later)
+    (w .row-of .ensures) (c .before .before .fill-row .ensures) in
+    subst (λ (k : ℕ). Filling (table-of s) (s .args .tree .now) (s .args .sheet .now) later (set (l .stack) (l .top + k - 1) (l .at - 1)) (l .top + k - 1) (l .at - 1)) (sym same)
+    (filling-goes-on (l .at - 1) (s .pre .room) (so-far k) (here .rank-is) (omega arith) (omega arith) filled (λ q x m h. h .number ∙ ap (numberOf (s .args .arithmetic)) (here .weights q)))
 
--- src/lib.rt:108:5
 root-weight-requires : tie.Need-root-weight-requires Inv-loop μ-loop
 root-weight-requires c κs =
     let s = entry (c .before .before .before) in
@@ -240,11 +189,9 @@ root-weight-requires c κs =
     let done = c .before .loop-test .left in
     (s .pre .proper .states-few, s .pre .finals-long, root-room (s .pre) (l .inv) done, final-fits (s .pre), root-good (s .pre) (l .inv) done)
 
--- src/lib.rt:87:1
 same-length : tie.Need-same-length Inv-loop μ-loop
 same-length c = c .before .before .before .loop .inv .same-length
 
--- src/lib.rt:87:1
 returns : tie.Need-returns Inv-loop μ-loop
 returns c =
     let s = entry (c .before .before .before .before) in
@@ -260,17 +207,7 @@ weigh-nodes-spec =
     index-symbols-requires
     loop-holds
     sub-at
-    shared-slice-read-wide
-    wide-requires
-    element-copy-out-wide
-    wide-requires-2
-    mul-wider
-    array-read-wider
-    wider-requires
-    add-wider
-    mul-wider-2
-    array-read-wider-2
-    wider-requires-2
+    row-of-requires
     fill-row-requires
     add-top
     sub-top

@@ -35,32 +35,26 @@ found : (c : tie.After-known-told) →
     treeRead (take (a .t1 .symbols) (a .t1 .ranks)) (a .tree .now) ≡ Nodes (c .before .nodes .given .0 .0)
 found c = sym (c .before .before .before .read-tree .ensures) ∙ c .before .nodes .given .1
 
--- src/lib.rt:56:11
 read-tree-requires : tie.Need-read-tree-requires
 read-tree-requires c κs = search needs
 
--- src/lib.rt:57:25
 enum-known-nodes : tie.Need-enum-known-nodes
 enum-known-nodes c = search needs
 
--- src/lib.rt:58:26
 mul-needed : tie.Need-mul-needed
 mul-needed c =
     let s = c .before .before .before .before .before .before .before .before in
     let small = needed-small (tableOf (s .args .t1)) (s .args .tree .now) (s .args .sheet .now) (c .before .nodes .given .0 .0) (found c) (s .pre .proper) in
     omega arith
 
--- src/lib.rt:60:17
 refused-requires : tie.Need-refused-requires
 refused-requires c κs = search needs
 
--- src/lib.rt:60:17
 returns : tie.Need-returns
 returns c =
     let a = c .before .before .before .before .before .before .before .before .before .before .args in
     room-refused (tableOf (a .t1)) (a .tree .now) (a .sheet .now) _ (found (c .before .before)) (c .before .if1 .taken) (c .refused .result) (c .refused .ensures)
 
--- src/lib.rt:62:17
 weigh-nodes-requires : tie.Need-weigh-nodes-requires
 weigh-nodes-requires c κs =
     let k = c .before .before .before .before .before .before .before .before .before in
@@ -75,19 +69,15 @@ weigh-nodes-requires c κs =
       room = rw (← same) (c .before .before .before .before .before .before .before .before .if1 .left);
     }
 
--- src/lib.rt:69:27
 enum-known-refusal : tie.Need-enum-known-refusal
 enum-known-refusal c = search needs
 
--- src/lib.rt:69:39
 refused-requires-2 : tie.Need-refused-requires-2
 refused-requires-2 c κs = search needs
 
--- src/lib.rt:49:1
 same-length : tie.Need-same-length
 same-length c = search needs
 
--- src/lib.rt:49:1
 returns-2 : tie.Need-returns-2
 returns-2 c =
     let k = c .before .before .before .before .before .before .before .before .before .before .before in
@@ -95,7 +85,6 @@ returns-2 c =
     rw (carried (c .before .weigh-nodes .result) (c .before .weigh-nodes .ok))
     (tree-weighed (tableOf (a .t1)) (a .tree .now) (a .sheet .now) (k .before .nodes .given .0 .0) (found k) (c .before .before .before .before .before .before .before .before .before .before .if1 .left) (c .before .weigh-nodes .result) _ (c .before .weigh-nodes .ensures))
 
--- src/lib.rt:49:1
 returns-3 : tie.Need-returns-3
 returns-3 c =
     let a = c .before .before .before .before .before .before .before .before .before .args in
