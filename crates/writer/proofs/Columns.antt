@@ -1,4 +1,4 @@
--- The invariant of the loops that write a column: so many of its numbers are put.
+-- The numbers of a column, and the invariant of the loops that write them: so many are put.
 use Prim.Native.Nat.{ℕ, _+_, _≤_, _<_}
 use mathlib.Core.Path.{_≡_, subst}
 use mathlib.Core.List.{List, [], _∷_, _++_}
@@ -14,6 +14,19 @@ use Rattle.writer.proofs.Putting.{Putting, putting-starts, putting-goes
 abbrev pub part : List ℕ → ℕ → ℕ → List ℕ
 part column from count = take count (drop from column)
 
+module _ (column : List ℕ) (from count : ℕ) (inside : from + count ≤ length column) where
+  part-long : length (part column from count) ≡ count
+  part-long = length-take-le count (drop from column) (simp length-drop (omega arith))
+
+  pub part-first : (i : ℕ) → i < count → (x : ℕ) → x ≡ getD column (from + i) 0
+      → drop i (part column from count) ≡ x ∷ drop (i + 1) (part column from count)
+  part-first i more x is =
+      let long = part-long in
+      rw (add-one, drop-cons (part column from count) i 0 (omega arith), getD-take count (drop from column) i 0 more, getD-drop from column i 0, is)
+
+  pub part-none : (i : ℕ) → count ≤ i → drop i (part column from count) ≡ []
+  part-none i h = let long = part-long in drop-of-length-le (part column from count) {i = i} (omega arith)
+
 pub record Columned (column : List ℕ) (from count : ℕ) (before : List ℕ) (at : ℕ) (room : List ℕ) (place i : ℕ) : Type 0 where
   pub some : i ≤ count
   pub putting : Putting before at (writtenAll (part column from count)) room place (writtenAll (drop i (part column from count)))
@@ -23,16 +36,10 @@ module _ (column : List ℕ) (from count : ℕ) (before : List ℕ) (at : ℕ) w
   columned-starts = record { some = omega arith; putting = putting-starts before at (writtenAll (part column from count)) }
 
   module _ (room : List ℕ) (place i : ℕ) (so-far : Columned column from count before at room place i) (inside : from + count ≤ length column) where
-    part-long : length (part column from count) ≡ count
-    part-long = length-take-le count (drop from column) (simp length-drop (omega arith))
-
     module _ (more : i < count) (x : ℕ) (is : x ≡ getD column (from + i) 0) where
       opened : Putting before at (writtenAll (part column from count)) room place (written x ++ writtenAll (drop (i + 1) (part column from count)))
       opened =
-          let long = part-long in
-          let first : drop i (part column from count) ≡ x ∷ drop (i + 1) (part column from count) =
-          rw (add-one, drop-cons (part column from count) i 0 (omega arith), getD-take count (drop from column) i 0 more, getD-drop from column i 0, is) in
-          subst (λ (l : List ℕ). Putting before at (writtenAll (part column from count)) room place (writtenAll l)) first (so-far .putting)
+          subst (λ (l : List ℕ). Putting before at (writtenAll (part column from count)) room place (writtenAll l)) (part-first column from count inside i more x is) (so-far .putting)
 
       pub columned-fits : at + length (writtenAll (part column from count)) ≤ length before → place + length (written x) ≤ length room
       columned-fits h =
@@ -47,7 +54,5 @@ module _ (column : List ℕ) (from count : ℕ) (before : List ℕ) (at : ℕ) w
 
     pub columned-ends : count ≤ i → Put before at (writtenAll (part column from count)) room place
     columned-ends h =
-        let long = part-long in
-        let none : drop i (part column from count) ≡ [] = drop-of-length-le (part column from count) {i = i} (omega arith) in
         putting-ends before at (writtenAll (part column from count)) room place
-        (subst (λ (l : List ℕ). Putting before at (writtenAll (part column from count)) room place (writtenAll l)) none (so-far .putting))
+        (subst (λ (l : List ℕ). Putting before at (writtenAll (part column from count)) room place (writtenAll l)) (part-none column from count inside i h) (so-far .putting))

@@ -1,4 +1,4 @@
--- What a writable record says of its numbers.
+-- What a writable record says of its numbers and of its written form's length.
 use Prim.Native.Nat.{ℕ, zero, suc, _+_, _≤_, _<_}
 use mathlib.Core.Path.{_≡_, refl, ap, subst}
 use native.Mathlib.Omega.{arith}
@@ -6,9 +6,12 @@ use native.Mathlib.Nat.{zero-add}
 use lib.ListN.{length, getD, take}
 use lib.Seq.{getD-take}
 use Rattle.model.specs.Table.{Transition, Each, ProperTransition}
-use Rattle.tables.specs.Record.{Columns, columns, rowAt, rowsFrom}
+use Rattle.numbers.specs.Written.{written, writtenAll}
+use Rattle.format.specs.Written.{transitionsNumbers, bytesOf}
+use Rattle.tables.specs.Record.{Columns, columns, rowAt, rowsFrom, tableOf}
 use Rattle.tables.specs.Steps.{Long}
 use Rattle.tables.specs.declared.TableRecord.{TableRecord}
+use Rattle.roundtrip.specs.Length.{length-table, table-length}
 use Rattle.roundtrip.specs.Members.{each-at}
 use Rattle.writer.specs.Writable.{RowInside, Writable}
 
@@ -59,3 +62,13 @@ module _ (r : TableRecord) (w : Writable r) where
         target = omega (arith, long .target);
         code = omega (arith, long .code);
       }
+
+  -- the parts of the written form's length
+  pub form-length : length (bytesOf (tableOf r))
+      ≡ length (written (r .arithmetic)) + length (written (r .states)) + length (written (r .symbols)) + length (writtenAll (take (r .symbols) (r .ranks)))
+      + length (writtenAll (take (r .states) (r .finals))) + length (written (r .count)) + length (writtenAll (transitionsNumbers (rowsFrom (columnsOf r) 0 (r .count))))
+  form-length =
+      omega (arith, length-table (tableOf r), ap (λ (n : ℕ). length (written n)) (w .symbols), ap (λ (n : ℕ). length (written n)) count-is)
+
+  pub form-short : length (bytesOf (tableOf r)) ≤ 65415
+  form-short = table-length (tableOf r) (w .proper)

@@ -1,4 +1,5 @@
 pub mod Columns
+pub mod Counting
 pub mod Fields
 pub mod Pieces
 pub mod Putting

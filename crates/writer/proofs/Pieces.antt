@@ -4,7 +4,7 @@ use native.Mathlib.Omega.{arith}
 use native.Mathlib.Numerals.{add-one}
 use mathlib.Core.Path.{_≡_, refl, sym, ap, _∙_}
 use mathlib.Core.List.{List, [], _∷_, _++_, append-assoc}
-use lib.ListN.{length, take, drop, getD}
+use lib.ListN.{length, take, drop, getD, length-append}
 use Rattle.model.specs.Table.{Table}
 use Rattle.numbers.specs.Written.{written, writtenAll}
 use Rattle.format.specs.Written.{transitionNumbers, transitionsNumbers, bytesOf}
@@ -19,6 +19,12 @@ pub row-pieces : (c : Columns) (j σ rank : ℕ) → σ ≡ getD (c .symbol) j 0
     ≡ written σ ++ (writtenAll (take rank (drop (j * 4) (c .children))) ++ (written (getD (c .target) j 0) ++ (written (getD (c .code) j 0) ++ [])))
 row-pieces c j σ rank e r =
     rw (r, e) (ap (λ (l : List ℕ). written (getD (c .symbol) j 0) ++ l) (all-append (take (getD (c .ranks) (getD (c .symbol) j 0) 0) (drop (j * 4) (c .children))) _))
+
+-- and the lengths of the pieces
+pub row-length : (c : Columns) (j σ rank : ℕ) → σ ≡ getD (c .symbol) j 0 → rank ≡ getD (c .ranks) σ 0
+    → length (writtenAll (transitionNumbers (rowAt c j)))
+    ≡ length (written σ) + length (writtenAll (take rank (drop (j * 4) (c .children)))) + length (written (getD (c .target) j 0)) + length (written (getD (c .code) j 0))
+row-length c j σ rank e r = ap length (row-pieces c j σ rank e r) ∙ simp length-append (omega arith)
 
 -- the first of some rows, and the others
 pub rows-pieces : (c : Columns) (j k : ℕ)
@@ -50,3 +56,11 @@ rows-open c j count h =
 
 pub rows-close : (c : Columns) (j count : ℕ) → count ≤ j → writtenAll (transitionsNumbers (rowsFrom c j (count - j))) ≡ []
 rows-close c j count h = let e : count - j ≡ 0 = omega arith in rw e (rows-none c j)
+
+pub rows-length-open : (c : Columns) (j count : ℕ) → j < count
+    → length (writtenAll (transitionsNumbers (rowsFrom c j (count - j))))
+    ≡ length (writtenAll (transitionNumbers (rowAt c j))) + length (writtenAll (transitionsNumbers (rowsFrom c (j + 1) (count - (j + 1)))))
+rows-length-open c j count h = ap length (rows-open c j count h) ∙ length-append (writtenAll (transitionNumbers (rowAt c j))) _
+
+pub rows-length-close : (c : Columns) (j count : ℕ) → count ≤ j → length (writtenAll (transitionsNumbers (rowsFrom c j (count - j)))) ≡ 0
+rows-length-close c j count h = ap length (rows-close c j count h)
