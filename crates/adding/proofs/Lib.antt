@@ -5,7 +5,6 @@ pub mod Digits
 pub mod Gathering
 pub mod Naming
 pub mod Packing
-pub mod Sides
 pub mod Sums
 pub mod Totals
 pub mod Unpacking

@@ -1,18 +1,19 @@
--- The loop that makes a transition of each entry.
+-- The loop that makes a transition of each entry, and the table that has these transitions.
 use Prim.Native.Nat.{ℕ, zero, suc, _+_, _*_, _/_, _%_, _≤_, _<_}
 use mathlib.Core.Path.{_≡_, refl, sym, ap, ap₂, _∙_, subst}
-use mathlib.Core.List.{List, [], _∷_, map}
+use mathlib.Core.List.{List, _∷_, map}
 use native.Mathlib.Omega.{arith}
 use native.Mathlib.Nat.{sub-zero}
 use borrow.Author.Count.{below-more}
 use lib.ListN.{getD, take, drop, set, length-set}
-use lib.Seq.{getD-take, getD-set-same, take-take, take-nil, take-set-le}
+use lib.Seq.{getD-take, getD-set-same, take-set-le}
 use Rattle.model.specs.Table.{Transition}
-use Rattle.tables.specs.Record.{Columns, columns, rowAt, rowsFrom}
+use Rattle.tables.specs.Rows.{part-of-front}
+use Rattle.tables.specs.Record.{Columns, columns, rowAt, rowsFrom, tableIn}
 use Rattle.tables.specs.Steps.{Kept, Long}
-use Rattle.profiles.specs.Entries.{entryAt, entriesFrom, entries}
+use Rattle.profiles.specs.Entries.{Entry, entryAt, entriesFrom, entries}
 use Rattle.adding.specs.Keys.{digits, transitionOf}
-use Rattle.adding.specs.Rows.{KeyKnown, DigitsPut, RowPut, Unpacked}
+use Rattle.adding.specs.Rows.{KeyKnown, DigitsPut, RowPut, Unpacked, tableWith}
 
 -- an entry's numbers, stored as transition i
 module _ (ranks symbol children stored target code : List ℕ) (i key weight : ℕ) (inside : i < 4000)
@@ -44,13 +45,6 @@ module _ (ranks symbol children stored target code : List ℕ) (i key weight : �
           code = length-set code i weight ∙ long .code;
         };
       }
-
--- a part of a list that ends before b is a part of its first b members
-part-of-front : {A : Type 0} (r a b : ℕ) (l : List A) → a + r ≤ b → take r (drop a (take b l)) ≡ take r (drop a l)
-part-of-front r a b [] h = rw take-nil
-part-of-front r zero b (x ∷ l) h = take-take r b (x ∷ l) (omega arith)
-part-of-front r (suc a) zero (x ∷ l) h = absurd (omega arith)
-part-of-front r (suc a) (suc b) (x ∷ l) h = part-of-front r a b l (omega arith)
 
 -- a transition that is kept is as it was
 module _ (before columns : Columns) (j : ℕ) (kept : Kept j before columns) (i : ℕ) (below : i < j) (small : getD (before .ranks) (getD (before .symbol) i 0) 0 ≤ 4) where
@@ -123,3 +117,8 @@ module _ (count : ℕ) (keys codes ranks : List ℕ) where
         rows = rows-all columns 0 count (λ j l. so-far .rows j (omega arith)) ∙ ap₂ (λ (rs : List ℕ) (k : ℕ). map (transitionOf rs) (entriesFrom keys codes 0 k)) (sym (so-far .same-ranks)) (sym (sub-zero count));
         long = so-far .long;
       }
+
+pub unpacked-table : (arithmetic states symbols count : ℕ) (finals : List ℕ) (es : List Entry) (c : Columns) → Unpacked count es c
+    → tableIn arithmetic states symbols count finals c ≡ tableWith arithmetic states symbols (c .ranks) finals es
+unpacked-table arithmetic states symbols count finals es c unpacked =
+    λ i. record { arithmetic = arithmetic; states = states; ranks = take symbols (c .ranks); finals = take states finals; transitions = unpacked .rows i }

@@ -8,42 +8,31 @@ use native.Mathlib.Nat.{zero-add}
 use lib.Dec.{eqb}
 use lib.ListN.{length, getD, length-map}
 use lib.Seq.{getD-take, length-take-le}
-use Rattle.model.specs.Table.{Table, Transition, Each, ProperTransition}
+use Rattle.model.specs.Table.{Table, Transition, Each, Proper, ProperTransition}
 use Rattle.theory.specs.Each.{each-implies, each-map, each-getD}
 use Rattle.theory.specs.Sum.{only, sum-each}
 use Rattle.theory.specs.Below.{below, each-below}
 use Rattle.theory.specs.Arithmetic.{arithmetic, meaning, codeOf, codeOf-meaning}
 use Rattle.theory.specs.Blocks.{blockOf, blockCount-few, blockCount-above}
 use Rattle.theory.specs.Direction.{Direction, backward, forward}
-use Rattle.theory.specs.Collapse.{blockFinal}
+use Rattle.theory.specs.Collapse.{blockFinal, Collapsed}
 use Rattle.theory.specs.Entry.{Between}
 use Rattle.theory.specs.CollapseProper.{collapsed-proper}
 use Rattle.theory.specs.AddingUp.{Names, AddedUp, added-collapsed}
-use Rattle.tables.specs.Record.{Columns, columns, rowAt, rowsFrom, tableOf}
+use Rattle.tables.specs.Record.{Columns, columns, rowAt, tableOf}
 use Rattle.tables.specs.declared.TableRecord.{TableRecord}
 use Rattle.profiles.specs.Entries.{Entry, entryAt, entriesFrom, entries}
 use Rattle.profiles.specs.Sums.{sumAt, SummedUp}
 use Rattle.adding.specs.Keys.{transitionOf}
 use Rattle.adding.specs.Named.{nameOf, Greatest}
 use Rattle.adding.specs.Finals.{finalFor}
-use Rattle.adding.specs.Rows.{Rows, gathered, Gathered, KeyKnown, Unpacked}
+use Rattle.adding.specs.Rows.{Rows, gathered, Gathered, KeyKnown, tableWith}
+use Rattle.tables.specs.Rows.{rows-length, each-row}
 use Rattle.adding.specs.Collapsing.{blocksOf, Collapsible, CollapsedTo}
 use Rattle.adding.proofs.Agreeing.{member-same, gathered-same}
 use Rattle.adding.proofs.Naming.{greatest-names}
 use Rattle.adding.proofs.Packing.{Packable}
 use Rattle.adding.proofs.Sums.{blocked, Known, known-key, known-each, entries-ascending, entries-sums}
-
-rows-length : (c : Columns) (j k : ℕ) → length (rowsFrom c j k) ≡ k
-unfolding rowsFrom
-rows-length c j zero = refl
-rows-length c j (suc k) = ap suc (rows-length c (suc j) k)
-
--- what holds of each row holds of row i
-row-of : (P : Transition → Type 0) (c : Columns) (m k : ℕ) → Each P (rowsFrom c m k) → (i : ℕ) → i < k → P (rowAt c (m + i))
-unfolding rowsFrom
-row-of P c m zero h i l = absurd (omega arith)
-row-of P c m (suc k) h zero l = let e : m + 0 ≡ m = omega arith in rw e (h .0)
-row-of P c m (suc k) h (suc i) l = let e : m + suc i ≡ suc m + i = omega arith in rw e (row-of P c (suc m) k (h .1) i (omega arith))
 
 -- what holds of each entry holds of entry i
 entry-of : (P : Entry → Type 0) (keys codes : List ℕ) (m k : ℕ) → Each P (entriesFrom keys codes m k) → (i : ℕ) → i < k → P (entryAt keys codes (m + i))
@@ -102,8 +91,7 @@ module _ (d : Direction) (r : TableRecord) (blocks : List ℕ) (number : ℕ) (g
     λ j l.
         let c : Columns = columns (r .ranks) (r .symbol) (r .children) (r .target) (r .code) in
         let p : ProperTransition (X .ranks) (X .states) (rowAt c j) =
-        subst (λ (i : ℕ). ProperTransition (X .ranks) (X .states) (rowAt c i)) (zero-add j)
-        (row-of (ProperTransition (X .ranks) (X .states)) c 0 (r .count) (given .proper .transitions-proper) j l) in
+        each-row (ProperTransition (X .ranks) (X .states)) c 0 (r .count) (given .proper .transitions-proper) j (omega arith) (omega arith) in
         record { inside = omega (arith, few-transitions); known = symbol-few (rowAt c j) p; rank-small = rank-few (rowAt c j) p },
   )
 
@@ -149,28 +137,16 @@ module _ (d : Direction) (r : TableRecord) (blocks : List ℕ) (number : ℕ) (g
           let k : Known (r .ranks) (entryAt keys′ codes′ i) = subst (λ (j : ℕ). Known (r .ranks) (entryAt keys′ codes′ j)) (zero-add i) here in
           known-key (r .ranks) (entryAt keys′ codes′ i) k
 
-      module _ (finals symbol children target code : List ℕ) (finals-long : length finals ≡ 256)
-          (finals-are : (D : ℕ) → D < number → getD finals D 0 ≡ finalFor d (r .arithmetic) (r .states) (r .finals) (blockOf blocks) n D)
-          (unpacked : Unpacked end es (columns (r .ranks) symbol children target code)) where
-        -- the record that is made
-        abbrev made : TableRecord
-        made = record {
-          arithmetic = r .arithmetic;
-          states = number;
-          symbols = r .symbols;
-          count = end;
-          ranks = r .ranks;
-          finals = finals;
-          symbol = symbol;
-          children = children;
-          target = target;
-          code = code;
-        }
+      module _ (finals : List ℕ) (finals-long : length finals ≡ 256)
+          (finals-are : (D : ℕ) → D < number → getD finals D 0 ≡ finalFor d (r .arithmetic) (r .states) (r .finals) (blockOf blocks) n D) where
+        -- the table that is made
+        abbrev made : Table
+        made = tableWith (r .arithmetic) number (r .symbols) (r .ranks) finals es
 
-        of-rows : (P : Transition → Type 0) → Each (λ e. P (transitionOf (r .ranks) e)) es → Each P (tableOf made .transitions)
-        of-rows P h = subst (Each P) (sym (unpacked .rows)) (each-map P (transitionOf (r .ranks)) es h)
+        of-rows : (P : Transition → Type 0) → Each (λ e. P (transitionOf (r .ranks) e)) es → Each P (made .transitions)
+        of-rows P h = each-map P (transitionOf (r .ranks)) es h
 
-        added : AddedUp d X b n (tableOf made)
+        added : AddedUp d X b n made
         added = record {
           shape = record {
             arithmetic-stays = refl;
@@ -178,18 +154,18 @@ module _ (d : Direction) (r : TableRecord) (blocks : List ℕ) (number : ℕ) (g
             states-blocks = given .blocks-many;
             finals-many = length-take-le number finals (omega (arith, few-blocks));
             zeros-unlisted = of-rows (λ t. 0 < t .code) (each-implies _ (λ e. 0 < e .code) (λ e h. h .0) es (summed .summed .codes));
-            ascending = rw (unpacked .rows) (entries-ascending (r .ranks) es known (summed .summed .rising));
+            ascending = entries-ascending (r .ranks) es known (summed .summed .rising);
           };
           finals-added = λ D l. getD-take number finals D 0 l ∙ finals-are D l ∙ final-collapsed d D l;
-          sums-added = λ k. rw (unpacked .rows) (entries-sums X b n d (r .ranks) packable es (summed .summed) sums-same k);
+          sums-added = λ k. entries-sums X b n d (r .ranks) packable es (summed .summed) sums-same k;
           codes-fit = of-rows (λ t. t .code < 2 ^ 32) (each-implies _ (λ e. e .code < 2 ^ 32) (λ e h. h .1) es (summed .summed .codes));
         }
 
-        pub made-collapsed : CollapsedTo d r blocks made
-        made-collapsed =
-            let collapsed = added-collapsed d X b n (given .proper) (given .bisimulation) names-members (tableOf made) added in
+        pub made-collapsed : (c : TableRecord) → tableOf c ≡ made → c .symbols ≡ r .symbols → CollapsedTo d r blocks c
+        made-collapsed c e s =
+            let collapsed = added-collapsed d X b n (given .proper) (given .bisimulation) names-members made added in
             record {
-              holds = record { table = refl; symbols = given .holds .symbols };
-              proper = collapsed-proper d X b (given .numbered) (tableOf made) collapsed (given .proper);
-              collapsed = collapsed;
+              holds = record { table = refl; symbols = s ∙ given .holds .symbols ∙ ap (λ (Y : Table). length (Y .ranks)) (sym e) };
+              proper = subst Proper (sym e) (collapsed-proper d X b (given .numbered) made collapsed (given .proper));
+              collapsed = subst (Collapsed d X b) (sym e) collapsed;
             }

@@ -2,7 +2,7 @@
 use Prim.Native.Nat.{ℕ}
 use mathlib.Core.Path.{_≡_}
 use mathlib.Core.List.{List}
-use lib.ListN.{length, take}
+use lib.ListN.{take}
 use Rattle.model.specs.Table.{Proper}
 use Rattle.theory.specs.Blocks.{blockOf, blockCount, FirstUse}
 use Rattle.theory.specs.Collapse.{Collapsed}
@@ -18,7 +18,6 @@ blocksOf r blocks = take (r .states) blocks
 pub record Collapsible (d : Direction) (r : TableRecord) (blocks : List ℕ) (number : ℕ) : Type 0 where
   pub holds : Holds r (tableOf r)
   pub proper : Proper (tableOf r)
-  pub blocks-long : length blocks ≡ 256
   pub numbered : FirstUse (r .states) (blockOf (blocksOf r blocks))
   pub blocks-many : number ≡ blockCount (blockOf (blocksOf r blocks)) (r .states)
   pub bisimulation : Bisimulation d (tableOf r) (blockOf (blocksOf r blocks))

@@ -4,7 +4,7 @@ use mathlib.Core.Path.{_≡_}
 use mathlib.Core.Bool.{cond}
 use mathlib.Core.List.{List, [], _∷_, map}
 use lib.ListN.{length, getD, take, drop}
-use Rattle.model.specs.Table.{Transition}
+use Rattle.model.specs.Table.{Table, Transition}
 use Rattle.theory.specs.Direction.{Direction}
 use Rattle.theory.specs.Entry.{blockKey}
 use Rattle.tables.specs.Record.{Columns, rowAt, rowsFrom}
@@ -60,3 +60,14 @@ pub record RowPut (i : ℕ) (t : Transition) (before columns : Columns) : Type 0
 pub record Unpacked (count : ℕ) (es : List Entry) (columns : Columns) : Type 0 where
   pub rows : rowsFrom columns 0 count ≡ map (transitionOf (columns .ranks)) es
   pub long : Long columns
+
+-- the table that these numbers, ranks, final codes and entries are
+abbrev pub tableWith : ℕ → ℕ → ℕ → List ℕ → List ℕ → List Entry → Table
+tableWith arithmetic states symbols ranks finals es =
+    record {
+      arithmetic = arithmetic;
+      states = states;
+      ranks = take symbols ranks;
+      finals = take states finals;
+      transitions = map (transitionOf ranks) es;
+    }

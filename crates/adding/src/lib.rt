@@ -1,6 +1,8 @@
 // A table collapsed by given blocks. One named member stands for each block; the transitions between named members are added up by
 // the keys of their blocks.
 
+use lists::BlockList;
+use lists::NameList;
 use profiles::SYMBOL;
 use states::Block;
 use states::State;
@@ -14,34 +16,40 @@ ghost use Rattle.theory.specs.Arithmetic.{codeOf};
 ghost use Rattle.theory.specs.Blocks.{blockOf};
 ghost use Rattle.theory.specs.Direction.{direction as sideOf};
 ghost use Rattle.theory.specs.Entry.{blockKey};
-ghost use Rattle.tables.specs.Record.{columns, rowAt, rowsFrom};
+ghost use Rattle.tables.specs.Record.{columns, rowAt, rowsFrom, tableOf};
 ghost use Rattle.tables.specs.Steps.{Long};
 ghost use Rattle.profiles.specs.Entries.{entries};
 ghost use Rattle.adding.specs.Keys.{pack, transitionOf};
 ghost use Rattle.adding.specs.Named.{nameOf, Greatest, allNamed, counted};
 ghost use Rattle.adding.specs.Finals.{finalsAdded, finalFor};
-ghost use Rattle.adding.specs.Rows.{Row, Rows, gathered, Gathered, KeyKnown, DigitsPut, RowPut, Unpacked};
+ghost use Rattle.adding.specs.Rows.{Row, Rows, gathered, Gathered, KeyKnown, DigitsPut, RowPut, Unpacked, tableWith};
 ghost use Rattle.adding.specs.Collapsing.{Collapsible, CollapsedTo};
 
-// The table collapsed by its blocks, of which there are `number`.
-pub fn add_up(direction: u32, table: TableRecord, blocks: &[u8; 256], number: usize) -> TableRecord
-    requires { ⌜ Collapsible (sideOf direction) table (now blocks) number ⌝ }
-    ensures { λ r. ⌜ CollapsedTo (sideOf direction) table (now (blocks .entry)) r ⌝ }
+// The table collapsed by its blocks, of which there are `number`. Keys and codes are lent to work in.
+pub fn add_up(
+    direction: u32,
+    table: TableRecord,
+    blocks: BlockList,
+    number: usize,
+    keys: &mut [u64; 16000],
+    codes: &mut [u32; 16000],
+) -> TableRecord
+    requires { ⌜ Collapsible (sideOf direction) table (blocks .list) number × (length (now keys) ≡ 16000) × (length (now codes) ≡ 16000) ⌝ }
+    ensures { λ r. ⌜ CollapsedTo (sideOf direction) table (blocks .list) r × (length (now (keys .exit)) ≡ 16000) × (length (now (codes .exit)) ≡ 16000) ⌝ }
 {
     let arithmetic = table.arithmetic;
-    let states = table.states;
-    let names = name_members(states, blocks);
+    let symbols = table.symbols;
+    let ranks = table.ranks;
+    let names = name_members(table.states, blocks);
     let finals = final_codes(
         direction,
         arithmetic,
-        states,
+        table.states,
         number,
         &table.finals,
         blocks,
-        &names,
+        names,
     );
-    let mut keys = [0u64; 16000];
-    let mut codes = [0u32; 16000];
     let many = gather(
         direction,
         table.count,
@@ -51,30 +59,46 @@ pub fn add_up(direction: u32, table: TableRecord, blocks: &[u8; 256], number: us
         &table.target,
         &table.code,
         blocks,
-        &names,
-        &mut keys,
-        &mut codes,
+        names,
+        keys,
+        codes,
     );
-    let count = profiles::sum_up(arithmetic, &mut keys, &mut codes, 0, many);
+    let end = profiles::sum_up(arithmetic, keys, codes, 0, many);
+    table_with(arithmetic, number, symbols, end, ranks, finals, keys, codes)
+}
+
+// The table with these numbers, ranks and final codes, and with the entries as its transitions.
+fn table_with(
+    arithmetic: u32,
+    states: usize,
+    symbols: usize,
+    count: usize,
+    ranks: [u8; 128],
+    finals: [u32; 256],
+    keys: &[u64; 16000],
+    codes: &[u32; 16000],
+) -> TableRecord
+    requires { ⌜ (count ≤ 4000) × (length (now keys) ≡ 16000) × (length (now codes) ≡ 16000) × ((i : ℕ) → i < count → KeyKnown ranks (getD (now keys) i 0)) ⌝ }
+    ensures { λ r. ⌜ (tableOf r ≡ tableWith arithmetic states symbols ranks finals (entries (now (keys .entry)) (now (codes .entry)) 0 count)) × (r .symbols ≡ symbols) ⌝ }
+{
     let mut symbol = [0u8; 4000];
     let mut children = [0u8; 16000];
     let mut target = [0u8; 4000];
     let mut code = [0u32; 4000];
     unpack_all(
         count,
-        &table.ranks,
-        &keys,
-        &codes,
+        &ranks,
+        keys,
+        codes,
         &mut symbol,
         &mut children,
         &mut target,
         &mut code,
     );
-    let ranks = table.ranks;
     TableRecord {
         arithmetic,
-        states: number,
-        symbols: table.symbols,
+        states,
+        symbols,
         count,
         ranks,
         finals,
@@ -97,33 +121,16 @@ fn long(byte: u8) -> u64
     byte as u64
 }
 
-fn block_of(blocks: &[u8; 256], q: State) -> Block
-    requires { ⌜ length (now blocks) ≡ 256 ⌝ }
-    ensures { λ r. ⌜ r .0 ≡ blockOf (now (blocks .entry)) (q .0) ⌝ }
-{
-    let i = wide(q.0);
-    Block(blocks[i])
-}
-
-// The member that stands for a block.
-fn name_of(names: &[u8; 256], block: Block) -> State
-    requires { ⌜ length (now names) ≡ 256 ⌝ }
-    ensures { λ r. ⌜ r .0 ≡ nameOf (now (names .entry)) (block .0) ⌝ }
-{
-    let i = wide(block.0);
-    State(names[i])
-}
-
 // Names the greatest member of each block.
-fn name_members(states: usize, blocks: &[u8; 256]) -> [u8; 256]
-    requires { ⌜ (states ≤ 256) × (length (now blocks) ≡ 256) ⌝ }
-    ensures { λ r. ⌜ Greatest (blockOf (now (blocks .entry))) states r ⌝ }
+fn name_members(states: usize, blocks: BlockList) -> NameList
+    requires { ⌜ states ≤ 256 ⌝ }
+    ensures { λ r. ⌜ Greatest (blockOf (blocks .list)) states (r .list) ⌝ }
 {
-    let mut names = [0u8; 256];
+    let mut names = NameList::new();
     let mut q = 0;
     while q < states {
-        let block = block_of(blocks, State(q as u8));
-        names[wide(block.0)] = q as u8;
+        let own = State(q as u8);
+        names = names.with(blocks.of(own), own);
         q += 1;
     }
     names
@@ -136,11 +143,11 @@ fn final_codes(
     states: usize,
     number: usize,
     finals: &[u32; 256],
-    blocks: &[u8; 256],
-    names: &[u8; 256],
+    blocks: BlockList,
+    names: NameList,
 ) -> [u32; 256]
-    requires { ⌜ (states ≤ 256) × (number ≤ 256) × (length (now finals) ≡ 256) × (length (now blocks) ≡ 256) × (length (now names) ≡ 256) ⌝ }
-    ensures { λ r. ⌜ (length r ≡ 256) × ((D : ℕ) → D < number → getD r D 0 ≡ finalFor (sideOf direction) arithmetic states (now (finals .entry)) (blockOf (now (blocks .entry))) (nameOf (now (names .entry))) D) ⌝ }
+    requires { ⌜ (states ≤ 256) × (number ≤ 256) × (length (now finals) ≡ 256) ⌝ }
+    ensures { λ r. ⌜ (length r ≡ 256) × ((D : ℕ) → D < number → getD r D 0 ≡ finalFor (sideOf direction) arithmetic states (now (finals .entry)) (blockOf (blocks .list)) (nameOf (names .list)) D) ⌝ }
 {
     if direction == 0 {
         return add_finals(arithmetic, states, finals, blocks);
@@ -149,14 +156,14 @@ fn final_codes(
 }
 
 // Backward: the sum over a block's members.
-fn add_finals(arithmetic: u32, states: usize, finals: &[u32; 256], blocks: &[u8; 256]) -> [u32; 256]
-    requires { ⌜ (states ≤ 256) × (length (now finals) ≡ 256) × (length (now blocks) ≡ 256) ⌝ }
-    ensures { λ r. ⌜ (length r ≡ 256) × ((D : ℕ) → D < 256 → getD r D 0 ≡ codeOf arithmetic (finalsAdded arithmetic states (now (finals .entry)) (blockOf (now (blocks .entry))) D)) ⌝ }
+fn add_finals(arithmetic: u32, states: usize, finals: &[u32; 256], blocks: BlockList) -> [u32; 256]
+    requires { ⌜ (states ≤ 256) × (length (now finals) ≡ 256) ⌝ }
+    ensures { λ r. ⌜ (length r ≡ 256) × ((D : ℕ) → D < 256 → getD r D 0 ≡ codeOf arithmetic (finalsAdded arithmetic states (now (finals .entry)) (blockOf (blocks .list)) D)) ⌝ }
 {
     let mut sums = [0u32; 256];
     let mut q = 0;
     while q < states {
-        let block = block_of(blocks, State(q as u8));
+        let block = blocks.of(State(q as u8));
         let at = wide(block.0);
         sums[at] = arith::sum_of_codes(arithmetic, sums[at], finals[q]);
         q += 1;
@@ -165,14 +172,14 @@ fn add_finals(arithmetic: u32, states: usize, finals: &[u32; 256], blocks: &[u8;
 }
 
 // Forward: the named member's.
-fn named_finals(number: usize, finals: &[u32; 256], names: &[u8; 256]) -> [u32; 256]
-    requires { ⌜ (number ≤ 256) × (length (now finals) ≡ 256) × (length (now names) ≡ 256) ⌝ }
-    ensures { λ r. ⌜ (length r ≡ 256) × ((D : ℕ) → D < number → getD r D 0 ≡ getD (now (finals .entry)) (nameOf (now (names .entry)) D) 0) ⌝ }
+fn named_finals(number: usize, finals: &[u32; 256], names: NameList) -> [u32; 256]
+    requires { ⌜ (number ≤ 256) × (length (now finals) ≡ 256) ⌝ }
+    ensures { λ r. ⌜ (length r ≡ 256) × ((D : ℕ) → D < number → getD r D 0 ≡ getD (now (finals .entry)) (nameOf (names .list) D) 0) ⌝ }
 {
     let mut codes = [0u32; 256];
     let mut block = 0;
     while block < number {
-        let q = name_of(names, Block(block as u8));
+        let q = names.of(Block(block as u8));
         codes[block] = finals[wide(q.0)];
         block += 1;
     }
@@ -180,12 +187,11 @@ fn named_finals(number: usize, finals: &[u32; 256], names: &[u8; 256]) -> [u32; 
 }
 
 // Whether a state is the named member of its block.
-fn is_named(q: State, blocks: &[u8; 256], names: &[u8; 256]) -> bool
-    requires { ⌜ (length (now blocks) ≡ 256) × (length (now names) ≡ 256) ⌝ }
-    ensures { λ r. ⌜ r ≡ eqb (nameOf (now (names .entry)) (blockOf (now (blocks .entry)) (q .0))) (q .0) ⌝ }
+fn is_named(q: State, blocks: BlockList, names: NameList) -> bool
+    ensures { λ r. ⌜ r ≡ eqb (nameOf (names .list) (blockOf (blocks .list) (q .0))) (q .0) ⌝ }
 {
-    let block = block_of(blocks, q);
-    let named = name_of(names, block);
+    let block = blocks.of(q);
+    let named = names.of(block);
     named.0 == q.0
 }
 
@@ -195,11 +201,11 @@ fn children_named<'a>(
     ranks: &'a [u8; 128],
     symbol: &'a [u8; 4000],
     children: &'a [u8; 16000],
-    blocks: &[u8; 256],
-    names: &[u8; 256],
+    blocks: BlockList,
+    names: NameList,
 ) -> bool
-    requires { ⌜ (length (now ranks) ≡ 128) × (length (now symbol) ≡ 4000) × (length (now children) ≡ 16000) × (length (now blocks) ≡ 256) × (length (now names) ≡ 256) × Row (now ranks) (now symbol) j ⌝ }
-    ensures { λ r. ⌜ r ≡ allNamed (blockOf (now (blocks .entry))) (nameOf (now (names .entry))) (rowAt (columns (now (ranks .entry)) (now (symbol .entry)) (now (children .entry)) [] []) j .children) ⌝ }
+    requires { ⌜ (length (now ranks) ≡ 128) × (length (now symbol) ≡ 4000) × (length (now children) ≡ 16000) × Row (now ranks) (now symbol) j ⌝ }
+    ensures { λ r. ⌜ r ≡ allNamed (blockOf (blocks .list)) (nameOf (names .list)) (rowAt (columns (now (ranks .entry)) (now (symbol .entry)) (now (children .entry)) [] []) j .children) ⌝ }
 {
     let own = wide(symbol[j]);
     let rank = wide(ranks[own]);
@@ -222,11 +228,11 @@ fn counts<'a>(
     symbol: &'a [u8; 4000],
     children: &'a [u8; 16000],
     target: &'a [u8; 4000],
-    blocks: &[u8; 256],
-    names: &[u8; 256],
+    blocks: BlockList,
+    names: NameList,
 ) -> bool
-    requires { ⌜ (length (now ranks) ≡ 128) × (length (now symbol) ≡ 4000) × (length (now children) ≡ 16000) × (length (now target) ≡ 4000) × (length (now blocks) ≡ 256) × (length (now names) ≡ 256) × Row (now ranks) (now symbol) j ⌝ }
-    ensures { λ r. ⌜ r ≡ counted (blockOf (now (blocks .entry))) (nameOf (now (names .entry))) (sideOf direction) (rowAt (columns (now (ranks .entry)) (now (symbol .entry)) (now (children .entry)) (now (target .entry)) []) j) ⌝ }
+    requires { ⌜ (length (now ranks) ≡ 128) × (length (now symbol) ≡ 4000) × (length (now children) ≡ 16000) × (length (now target) ≡ 4000) × Row (now ranks) (now symbol) j ⌝ }
+    ensures { λ r. ⌜ r ≡ counted (blockOf (blocks .list)) (nameOf (names .list)) (sideOf direction) (rowAt (columns (now (ranks .entry)) (now (symbol .entry)) (now (children .entry)) (now (target .entry)) []) j) ⌝ }
 {
     if direction != 0 {
         return children_named(j, ranks, symbol, children, blocks, names);
@@ -241,21 +247,21 @@ fn key_of<'a>(
     symbol: &'a [u8; 4000],
     children: &'a [u8; 16000],
     target: &'a [u8; 4000],
-    blocks: &[u8; 256],
+    blocks: BlockList,
 ) -> u64
-    requires { ⌜ (length (now ranks) ≡ 128) × (length (now symbol) ≡ 4000) × (length (now children) ≡ 16000) × (length (now target) ≡ 4000) × (length (now blocks) ≡ 256) × Row (now ranks) (now symbol) j ⌝ }
-    ensures { λ r. ⌜ r ≡ pack (blockKey (blockOf (now (blocks .entry))) (rowAt (columns (now (ranks .entry)) (now (symbol .entry)) (now (children .entry)) (now (target .entry)) []) j)) ⌝ }
+    requires { ⌜ (length (now ranks) ≡ 128) × (length (now symbol) ≡ 4000) × (length (now children) ≡ 16000) × (length (now target) ≡ 4000) × Row (now ranks) (now symbol) j ⌝ }
+    ensures { λ r. ⌜ r ≡ pack (blockKey (blockOf (blocks .list)) (rowAt (columns (now (ranks .entry)) (now (symbol .entry)) (now (children .entry)) (now (target .entry)) []) j)) ⌝ }
 {
     let own = symbol[j];
     let rank = wide(ranks[wide(own)]);
     let mut packed: u64 = 0;
     let mut k = 0;
     while k < rank {
-        let child = block_of(blocks, State(children[j * 4 + k]));
+        let child = blocks.of(State(children[j * 4 + k]));
         packed = packed * 256 + long(child.0);
         k += 1;
     }
-    let block = block_of(blocks, State(target[j]));
+    let block = blocks.of(State(target[j]));
     long(own) * SYMBOL + (packed * 256 + long(block.0))
 }
 
@@ -268,13 +274,13 @@ fn gather<'a>(
     children: &'a [u8; 16000],
     target: &'a [u8; 4000],
     code: &'a [u32; 4000],
-    blocks: &[u8; 256],
-    names: &[u8; 256],
+    blocks: BlockList,
+    names: NameList,
     keys: &mut [u64; 16000],
     codes: &mut [u32; 16000],
 ) -> usize
-    requires { ⌜ Long (columns (now ranks) (now symbol) (now children) (now target) (now code)) × Rows (now ranks) (now symbol) count × (length (now blocks) ≡ 256) × (length (now names) ≡ 256) × (length (now keys) ≡ 16000) × (length (now codes) ≡ 16000) ⌝ }
-    ensures { λ r. ⌜ Gathered (gathered (blockOf (now (blocks .entry))) (nameOf (now (names .entry))) (sideOf direction) (rowsFrom (columns (now (ranks .entry)) (now (symbol .entry)) (now (children .entry)) (now (target .entry)) (now (code .entry))) 0 count)) count (now (keys .exit)) (now (codes .exit)) r ⌝ }
+    requires { ⌜ Long (columns (now ranks) (now symbol) (now children) (now target) (now code)) × Rows (now ranks) (now symbol) count × (length (now keys) ≡ 16000) × (length (now codes) ≡ 16000) ⌝ }
+    ensures { λ r. ⌜ Gathered (gathered (blockOf (blocks .list)) (nameOf (names .list)) (sideOf direction) (rowsFrom (columns (now (ranks .entry)) (now (symbol .entry)) (now (children .entry)) (now (target .entry)) (now (code .entry))) 0 count)) count (now (keys .exit)) (now (codes .exit)) r ⌝ }
 {
     let mut many = 0;
     let mut j = 0;

@@ -1,12 +1,11 @@
 -- Bytes that go to the front of a room if they fit.
 use Prim.Native.Nat.{ℕ, _+_, _≤_, _<_}
-use mathlib.Core.Path.{_≡_, refl, sym, ap, _∙_, subst}
-use mathlib.Core.Bool.{true, false}
+use mathlib.Core.Path.{_≡_, ap, _∙_}
 use mathlib.Core.List.{List, _++_}
 use native.Mathlib.Omega.{arith}
 use native.Mathlib.Nat.{zero-add}
-use lib.ListN.{length, take, drop}
-use lib.Seq.{sets-eq, take-append-seam, take-length, length-sets}
+use lib.ListN.{length, drop}
+use lib.Seq.{sets-eq}
 use borrow.Author.Tests.{le-leb, lt-leb}
 use Rattle.answers.specs.declared.Answer.the-variants.{Done, Refused}
 use Rattle.answers.specs.declared.Refusal.the-variants.{RoomTooShort}
@@ -17,23 +16,20 @@ use Rattle.calls.specs.Answers.{fits, filled}
 use Rattle.collapse.specs.Promises.{blocksAnswer, written}
 use Rattle.collapse.specs.declared.Counted.{Counted}
 
--- bytes that were put at the front of a form
-module _ (form before bytes : List ℕ) (next : ℕ) (put : Put before 0 bytes form next) (inside : length bytes ≤ length before) where
+-- bytes that were put at the front of a room
+module _ (room before bytes : List ℕ) (next : ℕ) (put : Put before 0 bytes room next) (inside : length bytes ≤ length before) where
   pub next-length : next ≡ length bytes
   next-length = put .next-is ∙ zero-add (length bytes)
 
-  pub form-long : length form ≡ length before
-  form-long = ap length (put .room-is) ∙ length-sets before 0 bytes
+  pub put-filled : room ≡ filled (fits bytes before) bytes before
+  put-filled =
+      put .room-is ∙ sets-eq bytes before 0 (omega arith) ∙ ap (λ (k : ℕ). bytes ++ drop k before) (zero-add (length bytes))
+      ∙ rw (le-leb (length bytes) (length before) inside)
 
-  pub form-front : take next form ≡ bytes
-  form-front =
-      let e : form ≡ bytes ++ drop (0 + length bytes) before = put .room-is ∙ sets-eq bytes before 0 (omega arith) in
-      rw (next-length, e) (take-append-seam bytes (drop (0 + length bytes) before))
-
--- a copy of all of a list to the front of a room
-module _ (bytes room after : List ℕ) (copied : after ≡ take (length bytes) bytes ++ drop (length bytes) room) (room-enough : length bytes ≤ length room) where
-  pub copied-filled : after ≡ filled (fits bytes room) bytes room
-  copied-filled = copied ∙ ap (λ (l : List ℕ). l ++ drop (length bytes) room) (take-length bytes) ∙ rw (le-leb (length bytes) (length room) room-enough)
+-- a list that fits, at the front of a room
+module _ (bytes room after : List ℕ) (put : after ≡ bytes ++ drop (length bytes) room) (room-enough : length bytes ≤ length room) where
+  pub list-filled : after ≡ filled (fits bytes room) bytes room
+  list-filled = put ∙ rw (le-leb (length bytes) (length room) room-enough)
 
   pub blocks-fitted : (states number : ℕ) → Done number ≡ blocksAnswer (fits bytes room) states number
   blocks-fitted states number = rw (le-leb (length bytes) (length room) room-enough)

@@ -1,6 +1,7 @@
 // The calls that find blocks and shrink: blocks, collapse, shrink. No caller is trusted to have looked at a table before.
 
 use answers::{Answer, Refusal};
+use partition::Partition;
 use tables::TableRecord;
 
 ghost use mathlib.Core.Path.{_≡_};
@@ -29,7 +30,7 @@ fn refuse(refusal: Refusal) -> Counted
     Counted { answer: Answer::Refused(refusal), states: 0, transitions: 0 }
 }
 
-// A table's written form into the room. It is made aside first, since a refusal leaves the room alone.
+// A table's written form into the room. Since a refusal leaves the room alone, the length is asked first, unless the longest form fits.
 fn put_table(table: TableRecord, room: &mut [u8]) -> Counted
     requires { ⌜ Writable table ⌝ }
     ensures { λ r. ⌜ (r ≡ written (fits (bytesOf (tableOf table)) (now (room .entry))) (tableOf table))
@@ -37,26 +38,32 @@ fn put_table(table: TableRecord, room: &mut [u8]) -> Counted
 {
     let states = table.states;
     let transitions = table.count;
-    let mut form = [0u8; 65415];
-    let needed = writer::write(table, &mut form);
-    if room.len() < needed {
-        return refuse(Refusal::RoomTooShort(needed));
+    if room.len() < 65415 {
+        let needed = writer::length_of(table);
+        if room.len() < needed {
+            return refuse(Refusal::RoomTooShort(needed));
+        }
     }
-    bytes::copy(&form[..needed], room);
-    Counted { answer: Answer::Done(needed), states, transitions }
+    let written = writer::write(table, room);
+    Counted {
+        answer: Answer::Done(written),
+        states,
+        transitions,
+    }
 }
 
 // The blocks into the room, one byte a state.
-fn put_blocks(blocks: &[u8], states: usize, number: usize, room: &mut [u8]) -> Answer
-    requires { ⌜ states ≤ length (now blocks) ⌝ }
-    ensures { λ r. ⌜ (r ≡ blocksAnswer (fits (take states (now (blocks .entry))) (now (room .entry))) states number)
-        × (now (room .exit) ≡ filled (fits (take states (now (blocks .entry))) (now (room .entry))) (take states (now (blocks .entry))) (now (room .entry))) ⌝ }
+fn put_blocks(found: Partition, states: usize, room: &mut [u8]) -> Answer
+    requires { ⌜ states ≤ 256 ⌝ }
+    ensures { λ r. ⌜ (r ≡ blocksAnswer (fits (take states (found .blocks .list)) (now (room .entry))) states (found .number))
+        × (now (room .exit) ≡ filled (fits (take states (found .blocks .list)) (now (room .entry))) (take states (found .blocks .list)) (now (room .entry))) ⌝ }
 {
     if room.len() < states {
         return Answer::Refused(Refusal::RoomTooShort(states));
     }
-    bytes::copy(&blocks[..states], room);
-    Answer::Done(number)
+    let blocks = found.blocks;
+    blocks.put(states, room);
+    Answer::Done(found.number)
 }
 
 // The coarsest blocks of a table, one byte a state: done with their number.
@@ -70,26 +77,29 @@ pub fn blocks(direction: u32, table: &[u8], room: &mut [u8]) -> Answer
     let answer = reading.answer;
     match answer {
         Answer::Done(states) => {
-            let mut list = [0u8; 256];
             let record = reading.table;
-            let number = refine::coarsest(direction, record, &mut list);
-            put_blocks(&list[..states], states, number, room)
+            let mut keys = [0u64; 16000];
+            let mut codes = [0u32; 16000];
+            let found = refine::coarsest(direction, record, &mut keys, &mut codes);
+            put_blocks(found, states, room)
         }
         Answer::Refused(refusal) => Answer::Refused(refusal),
     }
 }
 
-// A record collapsed by its coarsest blocks.
-fn collapsed(direction: u32, table: TableRecord) -> TableRecord
-    requires { ⌜ (direction ≤ 1) × Readable table ⌝ }
-    ensures { λ r. ⌜ Readable r × CollapsedByCoarsest (sideOf direction) (tableOf table) (tableOf r) ⌝ }
+// A record collapsed by its coarsest blocks. Keys and codes are lent to work in.
+fn collapsed(
+    direction: u32,
+    table: TableRecord,
+    keys: &mut [u64; 16000],
+    codes: &mut [u32; 16000],
+) -> TableRecord
+    requires { ⌜ (direction ≤ 1) × Readable table × (length (now keys) ≡ 16000) × (length (now codes) ≡ 16000) ⌝ }
+    ensures { λ r. ⌜ Readable r × CollapsedByCoarsest (sideOf direction) (tableOf table) (tableOf r) × (length (now (keys .exit)) ≡ 16000) × (length (now (codes .exit)) ≡ 16000) ⌝ }
 {
-    let states = table.states;
-    let mut list = [0u8; 256];
-    let number = refine::coarsest(direction, table, &mut list);
-    let mut padded = [0u8; 256];
-    bytes::copy(&list[..states], &mut padded);
-    adding::add_up(direction, table, &padded, number)
+    let found = refine::coarsest(direction, table, keys, codes);
+    let blocks = found.blocks;
+    adding::add_up(direction, table, blocks, found.number, keys, codes)
 }
 
 // A table collapsed by its coarsest blocks: done with the length written.
@@ -104,7 +114,9 @@ pub fn collapse(direction: u32, table: &[u8], room: &mut [u8]) -> Counted
     match answer {
         Answer::Done(_) => {
             let record = reading.table;
-            put_table(collapsed(direction, record), room)
+            let mut keys = [0u64; 16000];
+            let mut codes = [0u32; 16000];
+            put_table(collapsed(direction, record, &mut keys, &mut codes), room)
         }
         Answer::Refused(refusal) => refuse(refusal),
     }
@@ -115,13 +127,15 @@ fn shrunk(direction: u32, table: TableRecord) -> TableRecord
     requires { ⌜ (direction ≤ 1) × Readable table ⌝ }
     ensures { λ r. ⌜ Readable r × Shrinks (sideOf direction) (tableOf table) (tableOf r) ⌝ }
 {
+    let mut keys = [0u64; 16000];
+    let mut codes = [0u32; 16000];
     let mut side = direction;
     let mut present = table;
-    let mut next = collapsed(side, present);
+    let mut next = collapsed(side, present, &mut keys, &mut codes);
     while next.states < present.states {
         side = 1 - side;
         present = next;
-        next = collapsed(side, present);
+        next = collapsed(side, present, &mut keys, &mut codes);
     }
     next
 }

@@ -6,8 +6,8 @@ use native.Mathlib.Omega.{arith}
 use lib.ListN.{length, length-append}
 use Rattle.model.specs.Table.{Each}
 use Rattle.theory.specs.Profile.{Key}
-use Rattle.refine.specs.Keys.{packed, packAll}
-use Rattle.refine.proofs.Packing.{room, room-few}
+use Rattle.grouping.specs.Keys.{packed, packAll}
+use Rattle.grouping.specs.Packing.{room, room-few}
 
 packed-append : (n : ℕ) (xs ys : List ℕ) → packed n (xs ++ ys) ≡ packed (packed n xs) ys
 packed-append n [] ys = refl

@@ -4,26 +4,28 @@ use mathlib.Core.Bool.{Bool, true, false, cond}
 use mathlib.Core.List.{List}
 use mathlib.Core.Logic.{_⊎_, inl, inr, _↔_}
 use mathlib.Core.Path.{_≡_, sym, _∙_, subst}
-use native.Mathlib.Nat.{mul-le-mul-right}
+use native.Mathlib.Nat.{mul-le-mul-right, suc-mul}
 use native.Mathlib.Omega.{arith}
 use lib.ListN.{length, take}
 use lib.Seq.{getD-take, length-take-le}
-use Rattle.model.specs.Table.{Table, Proper}
-use Rattle.tables.specs.Record.{Columns, rowsFrom, tableIn}
+use Rattle.model.specs.Table.{Proper}
+use Rattle.tables.specs.Record.{tableOf, Holds}
+use Rattle.tables.specs.declared.TableRecord.{TableRecord}
 use Rattle.theory.specs.Arithmetic.{arithmetic}
 use Rattle.theory.specs.Bisimulation as General
 use Rattle.theory.specs.Blocks.{blockOf, blocks-few, blockCount, blockCount-same}
 use Rattle.theory.specs.Direction.{Direction, CoarsestBlocks, Agree}
+use Rattle.theory.specs.Equality.{not-both}
 use Rattle.theory.specs.Profile.{SameProfile}
-use Rattle.theory.specs.Refinement.{Refining, Split, refining-start, refining-split, refining-end, coarsest-by-profile}
-use Rattle.theory.specs.Uses.{uses, grade, uses-known}
-use Rattle.uses.specs.Numbers.{usesOf, Indexed}
-use Rattle.refine.specs.Marks.{Depends, otherSide}
-use Rattle.refine.specs.Numbering.{Numbered, Started, FirstUsed}
-use Rattle.refine.specs.Parts.{Same, flag}
-use Rattle.refine.specs.Splits.{dirtyCount, Settled, SplitUp}
-use Rattle.refine.proofs.Grouping.{not-both}
-use Rattle.refine.proofs.Refined.{profileOf, same-profile, independent, grade-shared}
+use Rattle.theory.specs.Refinement.{Refining, refining-start, refining-split, refining-end, coarsest-by-profile}
+use Rattle.theory.specs.Uses.{grade, uses-known}
+use Rattle.partition.specs.Members.{flag, dirtyCount}
+use Rattle.partition.specs.Numbering.{Numbered, Started, FirstUsed}
+use Rattle.grouping.specs.Groups.{Same}
+use Rattle.dependents.specs.Marks.{otherSide}
+use Rattle.refine.specs.Splits.{Settled, SplitUp}
+use Rattle.refine.proofs.Known.{usesIn, IndexOf, profileOf, DependsIn}
+use Rattle.refine.proofs.Refined.{same-profile, independent, grade-shared}
 
 dirty-few : (dirty : List Bool) (n : ℕ) → dirtyCount dirty n ≤ n
 unfolding dirtyCount
@@ -41,111 +43,106 @@ measure n total dirty = (n - total) * (n + 1) + dirtyCount dirty n
 fewer : (n t t′ : ℕ) → t < t′ → t′ ≤ n → (n - t′) * (n + 1) + (n + 1) ≤ (n - t) * (n + 1)
 fewer n t t′ l h =
     let more : suc (n - t′) ≤ n - t = omega arith in
-    let e : suc (n - t′) * (n + 1) ≡ (n - t′) * (n + 1) + (n + 1) = native.Mathlib.Nat.suc-mul (n - t′) (n + 1) in
+    let e : suc (n - t′) * (n + 1) ≡ (n - t′) * (n + 1) + (n + 1) = suc-mul (n - t′) (n + 1) in
     subst (λ (x : ℕ). x ≤ (n - t) * (n + 1)) e (mul-le-mul-right (n + 1) more)
 
-module _ (a n symbols count : ℕ) (finals : List ℕ) (c : Columns) (d : Direction) where
-  abbrev X : Table
-  X = tableIn a n symbols count finals c
+-- a state that need not be looked at again
+abbrev pub Clean : List Bool → ℕ → Type 0
+Clean dirty q = flag dirty q ≡ false
 
-  -- the blocks so far
-  pub record Present (blocks : List ℕ) (dirty : List Bool) (total : ℕ) : Type 0 where
-    pub proper : Proper X
-    pub symbols-are : symbols ≡ length (take symbols (c .ranks))
-    pub numbered : Numbered n blocks total
-    pub dirty-long : length dirty ≡ 256
-    pub refining : Refining (arithmetic a) n (grade a d X) (uses a d (rowsFrom c 0 count)) (uses-known a X (proper .transitions-proper) d) (blockOf blocks) (λ q. flag dirty q ≡ false)
+-- the theory's refinement of a record's table
+abbrev pub RefiningOf : (t : TableRecord) → Direction → Proper (tableOf t) → (ℕ → ℕ) → (ℕ → Type 0) → Type 0
+RefiningOf t d proper = Refining (arithmetic (t .arithmetic)) (t .states) (grade (t .arithmetic) d (tableOf t)) (usesIn t d) (uses-known (t .arithmetic) (tableOf t) (proper .transitions-proper) d)
 
-  pub present-starts : (proper : Proper X) → symbols ≡ length (take symbols (c .ranks)) → (blocks : List ℕ) (dirty : List Bool) (total : ℕ) → Started d n finals blocks total
-      → length dirty ≡ 256 → ((q : ℕ) → q < n → flag dirty q ≡ true) → Present blocks dirty total
-  present-starts proper symbols-are blocks dirty total started long all = record {
+-- the blocks so far
+pub record Present (t : TableRecord) (d : Direction) (blocks : List ℕ) (dirty : List Bool) (total : ℕ) : Type 0 where
+  pub holds : Holds t (tableOf t)
+  pub proper : Proper (tableOf t)
+  pub numbered : Numbered (t .states) blocks total
+  pub dirty-long : length dirty ≡ 256
+  pub refining : RefiningOf t d proper (blockOf blocks) (Clean dirty)
+
+module _ {t : TableRecord} {d : Direction} (holds : Holds t (tableOf t)) (proper : Proper (tableOf t)) where
+  pub present-starts : {blocks : List ℕ} {total : ℕ} (dirty : List Bool) → Started d (t .states) (t .finals) blocks total
+      → length dirty ≡ 256 → ((q : ℕ) → q < t .states → flag dirty q ≡ true) → Present t d blocks dirty total
+  present-starts {blocks} dirty started long all = record {
+    holds = holds;
     proper = proper;
-    symbols-are = symbols-are;
     numbered = started .numbered;
     dirty-long = long;
     refining = record { covers = start .covers; graded = start .graded; settled = λ p q lp lq f g e. absurd (not-both (flag dirty p) (all p lp) f) };
   }
     where
-      start : Refining (arithmetic a) n (grade a d X) (uses a d (rowsFrom c 0 count)) (uses-known a X (proper .transitions-proper) d) (blockOf blocks) (λ q. ⊥)
-      start = refining-start (arithmetic a) n (grade a d X) (uses a d (rowsFrom c 0 count)) (uses-known a X (proper .transitions-proper) d) (blockOf blocks) (λ p q lp lq.
+      start : RefiningOf t d proper (blockOf blocks) (λ q. ⊥)
+      start = refining-start (arithmetic (t .arithmetic)) (t .states) (grade (t .arithmetic) d (tableOf t)) (usesIn t d) (uses-known (t .arithmetic) (tableOf t) (proper .transitions-proper) d) (blockOf blocks) (λ p q lp lq.
           let s = started .shared p q lp lq in
-          let g = grade-shared a n symbols count finals c proper symbols-are d p q lp lq in
+          let g = grade-shared holds proper d p q lp lq in
           (λ e. g .0 (s .0 e), λ e. s .1 (g .1 e)))
 
-  module _ (blocks : List ℕ) (dirty : List Bool) (total : ℕ) (now : Present blocks dirty total) where
-    pub total-few : total ≤ n
-    total-few = blocks-few n (blockOf blocks) total (now .numbered .used)
+module _ {t : TableRecord} {d : Direction} {blocks : List ℕ} {dirty : List Bool} {total : ℕ} (now : Present t d blocks dirty total) where
+  bytes : (q : ℕ) → q < t .states → blockOf blocks q < 256
+  bytes q l = omega (arith, now .numbered .below q l, blocks-few (t .states) (blockOf blocks) total (now .numbered .used), now .proper .states-few)
 
-    pub bytes : (q : ℕ) → q < n → blockOf blocks q < 256
-    bytes q l = omega (arith, now .numbered .below q l, total-few, now .proper .states-few)
+  module _ {starts list : List ℕ} (index : IndexOf t d starts list) where
+    same : (p q : ℕ) → p < t .states → q < t .states
+        → Same (t .arithmetic) (profileOf t d (blockOf blocks) starts list p) (profileOf t d (blockOf blocks) starts list q) ↔ SameProfile (arithmetic (t .arithmetic)) (usesIn t d) (blockOf blocks) p q
+    same = same-profile (now .holds) (now .proper) (blockOf blocks) bytes d index
 
-    module _ (starts list : List ℕ) (index : Indexed (usesOf d count (c .ranks) (c .symbol) (c .children) (c .target)) starts list) where
-      abbrev profile : ℕ → List Rattle.profiles.specs.Entries.Entry
-      profile = profileOf a n symbols count finals c (now .proper) (now .symbols-are) (blockOf blocks) bytes d starts list index
+    pub present-settled : Settled (t .arithmetic) (profileOf t d (blockOf blocks) starts list) (t .states) blocks dirty
+    present-settled p q lp lq f g e = same p q lp lq .1 (now .refining .settled p q lp lq f g e)
 
-      same : (p q : ℕ) → p < n → q < n → Same a (profile p) (profile q) ↔ SameProfile (arithmetic a) (uses a d (rowsFrom c 0 count)) (blockOf blocks) p q
-      same = same-profile a n symbols count finals c (now .proper) (now .symbols-are) (blockOf blocks) bytes d starts list index
-
-      pub present-settled : Settled a profile n blocks dirty
-      present-settled p q lp lq f g e = same p q lp lq .1 (now .refining .settled p q lp lq f g e)
-
-      module _ (other-starts other-list : List ℕ) (other : Indexed (usesOf (otherSide d) count (c .ranks) (c .symbol) (c .children) (c .target)) other-starts other-list)
-          (D : ℕ) (blocks′ : List ℕ) (dirty′ : List Bool) (total′ : ℕ)
-          (split : SplitUp a profile (Depends d (c .ranks) (c .symbol) (c .children) (c .target) other-starts other-list) n D blocks dirty total blocks′ dirty′ total′) where
-        theory-split : Split (arithmetic a) n (grade a d X) (uses a d (rowsFrom c 0 count)) (uses-known a X (now .proper .transitions-proper) d) D (blockOf blocks) (blockOf blocks′)
-            (λ q. flag dirty q ≡ false) (λ q. flag dirty′ q ≡ false)
-        theory-split = record {
-          elsewhere = split .elsewhere;
-          parts = λ p q lp lq bp bq.
-              let s = split .parts p q lp lq bp bq in
-              let t = same p q lp lq in
-              (λ e. t .0 (s .0 e), λ e. s .1 (t .1 e));
-          apart = split .apart;
-          cleared = split .cleared;
-          marked = λ p l f. independent a n symbols count finals c (now .proper) (now .symbols-are) d other-starts other-list other (blockOf blocks) (blockOf blocks′) p (split .marked p l f);
-        }
-
-        pub present-goes-on : Present blocks′ dirty′ total′
-        present-goes-on = record {
-          proper = now .proper;
-          symbols-are = now .symbols-are;
-          numbered = split .numbered;
-          dirty-long = split .dirty-long;
-          refining = refining-split (arithmetic a) n (grade a d X) (uses a d (rowsFrom c 0 count)) (uses-known a X (now .proper .transitions-proper) d) D (blockOf blocks) (blockOf blocks′)
-              (λ q. flag dirty q ≡ false) (λ q. flag dirty′ q ≡ false) (now .refining) theory-split;
-        }
-
-        pub present-less : measure n total′ dirty′ < measure n total dirty
-        present-less = go (split .progress)
-          where
-            few : total′ ≤ n
-            few = blocks-few n (blockOf blocks′) total′ (split .numbered .used)
-
-            go : (total < total′) ⊎ ((total′ ≡ total) × (dirtyCount dirty′ n < dirtyCount dirty n)) → measure n total′ dirty′ < measure n total dirty
-            go (inl l) = omega (arith, fewer n total total′ l few, dirty-few dirty′ n)
-            go (inr e) = rw (e .0) (omega (arith, e .1))
-
-    -- where no state is dirty the blocks are the coarsest
-    module _ (clean : (q : ℕ) → q < n → flag dirty q ≡ false) (blocks′ : List ℕ) (total′ : ℕ) (used : FirstUsed n blocks blocks′ total′) where
-      inside : n ≤ length blocks′
-      inside = omega (arith, used .long, now .proper .states-few)
-
-      at : (q : ℕ) → q < n → blockOf (take n blocks′) q ≡ blockOf blocks′ q
-      at q l = getD-take n blocks′ q 0 l
-
-      counted : (i : ℕ) → i ≤ n → blockCount (blockOf (take n blocks′)) i ≡ blockCount (blockOf blocks′) i
-      counted i l = blockCount-same (blockOf (take n blocks′)) (blockOf blocks′) i (λ j h. at j (omega arith))
-
-      pub present-ends : CoarsestBlocks d X (take n blocks′)
-      present-ends = record {
-        one-each = length-take-le n blocks′ inside;
-        coarsest = General.coarsest-renumbered n (Agree a X d) (blockOf blocks) (blockOf (take n blocks′))
-            (record { keeps = λ p q lp lq e. at p lp ∙ used .same p q lp lq .1 e ∙ sym (at q lq) })
-            (record { keeps = λ p q lp lq e. used .same p q lp lq .0 (sym (at p lp) ∙ e ∙ at q lq) })
-            (coarsest-by-profile d X (now .proper) (blockOf blocks)
-            (refining-end (arithmetic a) n (grade a d X) (uses a d (rowsFrom c 0 count)) (uses-known a X (now .proper .transitions-proper) d) (blockOf blocks) (λ q. flag dirty q ≡ false) (now .refining) clean));
-        first-use = record { next = λ i l. rw (at i l, counted i (omega arith)) (used .first-use .next i l) };
+    module _ {other-starts other-list : List ℕ} (other : IndexOf t (otherSide d) other-starts other-list) {D : ℕ} {blocks′ : List ℕ} {dirty′ : List Bool} {total′ : ℕ}
+        (split : SplitUp (t .arithmetic) (profileOf t d (blockOf blocks) starts list) (DependsIn t d other-starts other-list) (t .states) D blocks dirty total blocks′ dirty′ total′) where
+      pub present-goes-on : Present t d blocks′ dirty′ total′
+      present-goes-on = record {
+        holds = now .holds;
+        proper = now .proper;
+        numbered = split .numbered;
+        dirty-long = split .dirty-long;
+        refining = refining-split (arithmetic (t .arithmetic)) (t .states) (grade (t .arithmetic) d (tableOf t)) (usesIn t d) (uses-known (t .arithmetic) (tableOf t) (now .proper .transitions-proper) d) D (blockOf blocks) (blockOf blocks′)
+            (Clean dirty) (Clean dirty′) (now .refining) (record {
+              elsewhere = split .elsewhere;
+              parts = λ p q lp lq bp bq.
+                  let s = split .parts p q lp lq bp bq in
+                  let e = same p q lp lq in
+                  (λ h. e .0 (s .0 h), λ h. s .1 (e .1 h));
+              apart = split .apart;
+              cleared = split .cleared;
+              marked = λ p l f. independent (now .holds) (now .proper) d other (blockOf blocks) (blockOf blocks′) p (split .marked p l f);
+            });
       }
 
-      pub present-count : total′ ≡ blockCount (blockOf (take n blocks′)) n
-      present-count = used .counts ∙ sym (counted n (omega arith))
+      pub present-less : measure (t .states) total′ dirty′ < measure (t .states) total dirty
+      present-less = go (split .progress)
+        where
+          n : ℕ
+          n = t .states
+
+          few : total′ ≤ n
+          few = blocks-few n (blockOf blocks′) total′ (split .numbered .used)
+
+          go : (total < total′) ⊎ ((total′ ≡ total) × (dirtyCount dirty′ n < dirtyCount dirty n)) → measure n total′ dirty′ < measure n total dirty
+          go (inl l) = omega (arith, fewer n total total′ l few, dirty-few dirty′ n)
+          go (inr e) = rw (e .0) (omega (arith, e .1))
+
+  -- where no state is dirty the blocks are the coarsest
+  module _ (clean : (q : ℕ) → q < t .states → Clean dirty q) {blocks′ : List ℕ} {total′ : ℕ} (used : FirstUsed (t .states) blocks blocks′ total′) where
+    at : (q : ℕ) → q < t .states → blockOf (take (t .states) blocks′) q ≡ blockOf blocks′ q
+    at q l = getD-take (t .states) blocks′ q 0 l
+
+    counted : (i : ℕ) → i ≤ t .states → blockCount (blockOf (take (t .states) blocks′)) i ≡ blockCount (blockOf blocks′) i
+    counted i l = blockCount-same (blockOf (take (t .states) blocks′)) (blockOf blocks′) i (λ j h. at j (omega arith))
+
+    pub present-ends : CoarsestBlocks d (tableOf t) (take (t .states) blocks′)
+    present-ends = record {
+      one-each = length-take-le (t .states) blocks′ (omega (arith, used .long, now .proper .states-few));
+      coarsest = General.coarsest-renumbered (t .states) (Agree (t .arithmetic) (tableOf t) d) (blockOf blocks) (blockOf (take (t .states) blocks′))
+          (record { keeps = λ p q lp lq e. at p lp ∙ used .same p q lp lq .1 e ∙ sym (at q lq) })
+          (record { keeps = λ p q lp lq e. used .same p q lp lq .0 (sym (at p lp) ∙ e ∙ at q lq) })
+          (coarsest-by-profile d (tableOf t) (now .proper) (blockOf blocks)
+          (refining-end (arithmetic (t .arithmetic)) (t .states) (grade (t .arithmetic) d (tableOf t)) (usesIn t d) (uses-known (t .arithmetic) (tableOf t) (now .proper .transitions-proper) d) (blockOf blocks) (Clean dirty) (now .refining) clean));
+      first-use = record { next = λ i l. rw (at i l, counted i (omega arith)) (used .first-use .next i l) };
+    }
+
+    pub present-count : total′ ≡ blockCount (blockOf (take (t .states) blocks′)) (t .states)
+    present-count = used .counts ∙ sym (counted (t .states) (omega arith))

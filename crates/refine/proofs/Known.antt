@@ -1,61 +1,69 @@
--- What is known of a proper table's columns.
-use Prim.Native.Nat.{ℕ, zero, suc, _+_, _*_, _≤_, _<_, _^_}
-use mathlib.Core.List.{List}
-use mathlib.Core.Path.{_≡_, refl, ap, _∙_, subst}
-use native.Mathlib.Decide.{ℕ-discrete}
+-- What is known of the columns of a record that is a proper table, and names for what they hold.
+use Prim.Native.Nat.{ℕ, _+_, _*_, _≤_, _<_, _^_}
+use mathlib.Core.List.{List, map}
+use mathlib.Core.Path.{_≡_, _∙_, subst}
 use native.Mathlib.Omega.{arith}
-use lib.ListN.{length, getD, take, drop}
+use lib.ListN.{getD, take, drop}
 use lib.Seq.{getD-take, getD-drop}
-use Rattle.model.specs.Table.{Transition, Each, ProperTransition, Proper}
-use Rattle.tables.specs.Record.{Columns, rowAt, rowsFrom, tableIn}
+use Rattle.model.specs.Table.{ProperTransition, Proper}
+use Rattle.tables.specs.Rows.{columnsOf, rows-length, each-row}
+use Rattle.tables.specs.Record.{columns, rowAt, rowsFrom, tableOf, Holds}
+use Rattle.tables.specs.declared.TableRecord.{TableRecord}
+use Rattle.theory.specs.Arithmetic.{Weight}
+use Rattle.theory.specs.Direction.{Direction}
 use Rattle.theory.specs.Each.{each-at}
+use Rattle.theory.specs.Profile.{Use}
+use Rattle.theory.specs.Uses.{uses}
+use Rattle.profiles.specs.Entries.{Entry}
+use Rattle.uses.specs.Lists.{Row, listed}
+use Rattle.uses.specs.Numbers.{usesOf, Indexed}
 use Rattle.uses.specs.Theory.{rankAt, Ranked}
-use Rattle.refine.specs.Keys.{Row}
+use Rattle.grouping.specs.Keys.{entryOf}
+use Rattle.dependents.specs.Marks.{Depends}
 
-each-row : (P : Transition → Type 0) (c : Columns) (j k : ℕ) → Each P (rowsFrom c j k) → (i : ℕ) → j ≤ i → i < j + k → P (rowAt c i)
-unfolding rowsFrom
-each-row P c j zero m i l h = absurd (omega arith)
-each-row P c j (suc k) m i l h = go (ℕ-discrete j i) (each-row P c (suc j) k (m .1) i)
-  where
-    go : Dec (j ≡ i) → (suc j ≤ i → i < suc j + k → P (rowAt c i)) → P (rowAt c i)
-    go (yes e) ih = subst (λ (x : ℕ). P (rowAt c x)) e (m .0)
-    go (no d) ih = ih (omega arith) (omega arith)
+-- the theory's uses of a record's table
+abbrev pub usesIn : (t : TableRecord) → Direction → List (Use (Weight (t .arithmetic)))
+usesIn t d = uses (t .arithmetic) d (rowsFrom (columnsOf t) 0 (t .count))
 
-rows-count : (c : Columns) (j k : ℕ) → length (rowsFrom c j k) ≡ k
-unfolding rowsFrom
-rows-count c j zero = refl
-rows-count c j (suc k) = ap suc (rows-count c (suc j) k)
+-- the lists are the index of a record's uses
+abbrev pub IndexOf : TableRecord → Direction → List ℕ → List ℕ → Type 0
+IndexOf t d = Indexed (usesOf d (t .count) (t .ranks) (t .symbol) (t .children) (t .target))
 
-module _ (a n symbols count : ℕ) (finals : List ℕ) (c : Columns) (proper : Proper (tableIn a n symbols count finals c)) (symbols-are : symbols ≡ length (take symbols (c .ranks))) where
-  pub count-few : count ≤ 4000
-  count-few = omega (arith, rows-count c 0 count, proper .transitions-few)
+-- the entries of each state under the blocks b
+abbrev pub profileOf : TableRecord → Direction → (ℕ → ℕ) → List ℕ → List ℕ → ℕ → List Entry
+profileOf t d b starts list p = map (entryOf d (t .ranks) (t .symbol) (t .children) (t .target) (t .code) b) (listed starts list p)
 
-  pub transition : (j : ℕ) → j < count → ProperTransition (take symbols (c .ranks)) n (rowAt c j)
-  transition j l = each-row _ c 0 count (proper .transitions-proper) j (omega arith) (omega arith)
+-- which states depend on a state, by the index of the other side
+abbrev pub DependsIn : TableRecord → Direction → List ℕ → List ℕ → ℕ → ℕ → Type 0
+DependsIn t d = Depends d (t .ranks) (t .symbol) (t .children) (t .target)
 
-  pub symbol-known : (j : ℕ) → j < count → getD (c .symbol) j 0 < 128
+module _ {t : TableRecord} (holds : Holds t (tableOf t)) (proper : Proper (tableOf t)) where
+  pub count-few : t .count ≤ 4000
+  count-few = omega (arith, rows-length (columnsOf t) 0 (t .count), proper .transitions-few)
+
+  pub transition : (j : ℕ) → j < t .count → ProperTransition (take (t .symbols) (t .ranks)) (t .states) (rowAt (columnsOf t) j)
+  transition j l = each-row _ (columnsOf t) 0 (t .count) (proper .transitions-proper) j (omega arith) (omega arith)
+
+  pub symbol-known : (j : ℕ) → j < t .count → getD (t .symbol) j 0 < 128
   symbol-known j l = omega (arith, transition j l .symbol-known, proper .symbols-few)
 
-  rank-same : (j : ℕ) → j < count → getD (take symbols (c .ranks)) (getD (c .symbol) j 0) 0 ≡ rankAt c j
-  rank-same j l = getD-take symbols (c .ranks) (getD (c .symbol) j 0) 0 (omega (arith, transition j l .symbol-known))
+  rank-same : (j : ℕ) → j < t .count → getD (take (t .symbols) (t .ranks)) (getD (t .symbol) j 0) 0 ≡ rankAt (columnsOf t) j
+  rank-same j l = getD-take (t .symbols) (t .ranks) (getD (t .symbol) j 0) 0 (omega (arith, transition j l .symbol-known, holds .symbols))
 
-  pub ranked : Ranked c count
+  pub ranked : Ranked (columnsOf t) (t .count)
   ranked j l = (
     transition j l .children-many ∙ rank-same j l,
-    subst (λ (x : ℕ). x ≤ 4) (rank-same j l) (each-at (λ k. k ≤ 4) (take symbols (c .ranks)) (getD (c .symbol) j 0) 0 (proper .ranks-small) (transition j l .symbol-known)),
+    subst (λ (x : ℕ). x ≤ 4) (rank-same j l) (each-at (λ k. k ≤ 4) (take (t .symbols) (t .ranks)) (getD (t .symbol) j 0) 0 (proper .ranks-small) (transition j l .symbol-known)),
   )
 
-  pub row : (j : ℕ) → j < count → Row (c .ranks) (c .symbol) j
+  pub row : (j : ℕ) → j < t .count → Row (t .ranks) (t .symbol) j
   row j l = record { inside = omega (arith, count-few); known = symbol-known j l; rank-small = ranked j l .1 }
 
-  pub target-known : (j : ℕ) → j < count → getD (c .target) j 0 < n
-  target-known j l = transition j l .target-known
-
-  pub child-known : (j k : ℕ) → j < count → k < rankAt c j → getD (c .children) (j * 4 + k) 0 < n
+  pub child-known : (j k : ℕ) → j < t .count → k < rankAt (columnsOf t) j → getD (t .children) (j * 4 + k) 0 < t .states
   child-known j k l h =
       let r = ranked j l in
-      subst (λ (x : ℕ). x < n) (getD-take (rankAt c j) (drop (j * 4) (c .children)) k 0 h ∙ getD-drop (j * 4) (c .children) k 0)
-      (each-at (λ q. q < n) (rowAt c j .children) k 0 (transition j l .children-known) (omega (arith, r .0)))
+      subst (λ (x : ℕ). x < t .states) (getD-take (rankAt (columnsOf t) j) (drop (j * 4) (t .children)) k 0 h ∙ getD-drop (j * 4) (t .children) k 0)
+      (each-at (λ q. q < t .states) (rowAt (columnsOf t) j .children) k 0 (transition j l .children-known) (omega (arith, r .0)))
 
-  pub finals-fit : (q : ℕ) → q < n → getD finals q 0 < 2 ^ 32
-  finals-fit q l = subst (λ (x : ℕ). x < 2 ^ 32) (getD-take n finals q 0 l) (each-at (λ x. x < 2 ^ 32) (take n finals) q 0 (proper .finals-fit) (omega (arith, proper .finals-many)))
+  pub final-fits : (q : ℕ) → q < t .states → getD (t .finals) q 0 < 2 ^ 32
+  final-fits q l = subst (λ (x : ℕ). x < 2 ^ 32) (getD-take (t .states) (t .finals) q 0 l) (each-at (λ x. x < 2 ^ 32) (take (t .states) (t .finals)) q 0 (proper .finals-fit) (omega (arith, proper .finals-many)))

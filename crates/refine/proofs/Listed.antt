@@ -10,11 +10,11 @@ use lib.Seq.{getD-take, getD-drop, slice}
 use Rattle.model.specs.Table.{Each}
 use Rattle.theory.specs.Direction.{Direction, backward, forward}
 use Rattle.theory.specs.Each.{each-at}
-use Rattle.uses.proofs.Sides.{limit-row}
-use Rattle.uses.specs.Numbers.{limit, chosen, isUseOf, usesOf, totalBelow, startOf, Indexed}
+use Rattle.uses.specs.Numbers.{limit, chosen, isUseOf, totalBelow, startOf, Indexed}
 use Rattle.uses.specs.Theory.{rowOf, each-chosen}
-use Rattle.refine.specs.Keys.{Row}
-use Rattle.refine.specs.Lists.{start, listed, Readable}
+use Rattle.uses.specs.Lists.{Row, start, listed, ListedUses}
+use Rattle.tables.specs.declared.TableRecord.{TableRecord}
+use Rattle.refine.proofs.Known.{IndexOf}
 
 -- a number that passes the test is chosen
 chosen-at : (test : ℕ → Bool) (i k u : ℕ) → i ≤ u → u < i + k → test u ≡ true → (m : ℕ) × (m < length (chosen test i k)) × (getD (chosen test i k) m 0 ≡ u)
@@ -42,58 +42,50 @@ located-in size (suc n) i h = go (decLt i (totalBelow size n)) (located-in size 
 slice-at : (f t m : ℕ) (l : List ℕ) → f + m < t → getD (slice f t l) m 0 ≡ getD l (f + m) 0
 slice-at f t m l h = getD-drop f (take t l) m 0 ∙ getD-take t l (f + m) 0 h
 
-module _ (lists : ℕ → List ℕ) (starts list : List ℕ) (index : Indexed lists starts list) where
-  begin : (p : ℕ) → p ≤ 256 → start starts p ≡ startOf lists p
-  begin = index .begin
-
+module _ {lists : ℕ → List ℕ} {starts list : List ℕ} (index : Indexed lists starts list) where
   ends : (p : ℕ) → startOf lists (suc p) ≡ startOf lists p + length (lists p)
   unfolding totalBelow
   ends p = refl
 
   -- the region of p has p's list
   pub listed-is : (p : ℕ) → p < 256 → listed starts list p ≡ lists p
-  listed-is p l = rw (begin p (omega arith), begin (suc p) l) (index .there p l)
+  listed-is p l = rw (index .begin p (omega arith), index .begin (suc p) l) (index .there p l)
 
-  pub in-region : (p u m : ℕ) → p < 256 → m < length (lists p) → getD (lists p) m 0 ≡ u → (i : ℕ) × (start starts p ≤ i) × (i < start starts (suc p)) × (getD list i 0 ≡ u)
+  in-region : (p u m : ℕ) → p < 256 → m < length (lists p) → getD (lists p) m 0 ≡ u → (i : ℕ) × (start starts p ≤ i) × (i < start starts (suc p)) × (getD list i 0 ≡ u)
   in-region p u m l h e = (
     startOf lists p + m,
-    omega (arith, begin p (omega arith)),
-    omega (arith, begin (suc p) l, ends p),
+    omega (arith, index .begin p (omega arith)),
+    omega (arith, index .begin (suc p) l, ends p),
     sym (slice-at (startOf lists p) (startOf lists (suc p)) m list (omega (arith, ends p))) ∙ ap (λ (us : List ℕ). getD us m 0) (index .there p l) ∙ e,
   )
 
   -- what holds of each member of each list holds of each number in the regions
-  pub each-listed : (P : ℕ → Type 0) → ((p : ℕ) → p < 256 → Each P (lists p)) → (i : ℕ) → i < start starts 256 → P (getD list i 0)
+  each-listed : (P : ℕ → Type 0) → ((p : ℕ) → p < 256 → Each P (lists p)) → (i : ℕ) → i < start starts 256 → P (getD list i 0)
   each-listed P h i l =
-      let r = located-in (λ p. length (lists p)) 256 i (rw (begin 256 (omega arith)) at l) in
+      let r = located-in (λ p. length (lists p)) 256 i (rw (index .begin 256 (omega arith)) at l) in
       let m = i - startOf lists (r .0) in
       let place : startOf lists (r .0) + m ≡ i = omega (arith, r .2) in
       let short : m < length (lists (r .0)) = omega (arith, r .2, r .3, ends (r .0)) in
       subst P (sym (ap (λ (us : List ℕ). getD us m 0) (index .there (r .0) (r .1))) ∙ slice-at (startOf lists (r .0)) (startOf lists (suc (r .0))) m list (omega (arith, r .3)) ∙ ap (λ (x : ℕ). getD list x 0) place)
       (each-at P (lists (r .0)) m 0 (h (r .0) (r .1)) short)
 
-module _ (d : Direction) (count : ℕ) (ranks symbol children target starts list : List ℕ) (index : Indexed (usesOf d count ranks symbol children target) starts list) where
+module _ (t : TableRecord) (d : Direction) {starts list : List ℕ} (index : IndexOf t d starts list) where
   -- a use of p is listed in p's region
-  pub use-listed : (p u : ℕ) → p < 256 → u < limit d count → isUseOf d ranks symbol children target p u ≡ true → (i : ℕ) × (start starts p ≤ i) × (i < start starts (suc p)) × (getD list i 0 ≡ u)
-  use-listed p u l h t =
-      let r = chosen-at (isUseOf d ranks symbol children target p) 0 (limit d count) u (omega arith) (omega arith) t in
-      in-region (usesOf d count ranks symbol children target) starts list index p u (r .0) l (r .1) (r .2)
+  pub use-listed : (p u : ℕ) → p < 256 → u < limit d (t .count) → isUseOf d (t .ranks) (t .symbol) (t .children) (t .target) p u ≡ true
+      → (i : ℕ) × (start starts p ≤ i) × (i < start starts (suc p)) × (getD list i 0 ≡ u)
+  use-listed p u l h e =
+      let r = chosen-at (isUseOf d (t .ranks) (t .symbol) (t .children) (t .target) p) 0 (limit d (t .count)) u (omega arith) (omega arith) e in
+      in-region index p u (r .0) l (r .1) (r .2)
 
-  pub index-readable : ((j : ℕ) → j < count → Row ranks symbol j) → Readable d ranks symbol starts list
-  index-readable row = record {
-    ascend = λ p l. omega (arith, begin lists starts list index p (omega arith), begin lists starts list index (suc p) l, ends lists starts list index p);
-    few = few-at 256 (omega arith) (index .few);
+  pub uses-listed : ((j : ℕ) → j < t .count → Row (t .ranks) (t .symbol) j) → ListedUses d (t .ranks) (t .symbol) starts list
+  uses-listed row = record {
+    ascend = λ p l. omega (arith, index .begin p (omega arith), index .begin (suc p) l, ends index p);
+    few = omega (arith, index .begin 256 (omega arith), index .few);
     starts-long = index .starts-long;
     list-long = index .list-long;
-    rows = each-listed lists starts list index (λ u. Row ranks symbol (rowOf d u)) (λ p l. each-chosen _ _ 0 (limit d count) (λ u h k t. row (rowOf d u) (of-row d u (omega arith))));
+    rows = each-listed index (λ u. Row (t .ranks) (t .symbol) (rowOf d u)) (λ p l. each-chosen _ _ 0 (limit d (t .count)) (λ u h k e. row (rowOf d u) (of-row d u (omega arith))));
   }
     where
-      lists : ℕ → List ℕ
-      lists = usesOf d count ranks symbol children target
-
-      few-at : (n : ℕ) → n ≤ 256 → startOf lists n ≤ 16000 → start starts n ≤ 16000
-      few-at n l h = rw (begin lists starts list index n l) h
-
-      of-row : (d : Direction) (u : ℕ) → u < limit d count → rowOf d u < count
+      of-row : (d : Direction) (u : ℕ) → u < limit d (t .count) → rowOf d u < t .count
       of-row backward u h = h
-      of-row forward u h = limit-row forward count u h
+      of-row forward u h = omega arith

@@ -11,11 +11,14 @@ use lib.Dec.{eqb}
 use lib.ListN.{getD}
 use Rattle.theory.specs.Blocks.{blockOf, blocks-few}
 use Rattle.profiles.specs.Entries.{Entry}
-use Rattle.refine.specs.Marks.{Marked, SomeIn}
-use Rattle.refine.specs.Numbering.{Numbered}
-use Rattle.refine.specs.Parts.{Same, Grouped, numberOf, flag, Members, Renumbered, Fits}
-use Rattle.refine.specs.Splits.{dirtyCount, Settled, SplitUp}
-use Rattle.refine.proofs.Grouping.{not-both}
+use Rattle.profiles.specs.Sums.{sumAt}
+use Rattle.dependents.specs.Marks.{Marked, SomeIn}
+use Rattle.partition.specs.Numbering.{Numbered}
+use Rattle.grouping.specs.Groups.{Same, Grouped}
+use Rattle.partition.specs.Parts.{numberOf, Renumbered, Fits}
+use Rattle.partition.specs.Members.{flag, Members, dirtyCount}
+use Rattle.refine.specs.Splits.{Settled, SplitUp}
+use Rattle.theory.specs.Equality.{not-both}
 
 -- whether a state is among the first i found
 found-or-not : (found : List ℕ) (i q : ℕ) → ((k : ℕ) × (k < i) × (getD found k 0 ≡ q)) ⊎ ((k : ℕ) → k < i → getD found k 0 ≢ q)
@@ -106,12 +109,12 @@ count-less dirty dirty′ (suc n) x h l t f = go (ℕ-discrete x n) (count-less 
         rw (t′, f′) (omega (arith, most))
     go (no d) ih = both (flag dirty n) (flag dirty′ n) (h n (omega arith)) (ih (omega arith) t f)
 
-module _ (a : ℕ) (profile : ℕ → List Entry) (n D total many clean parts keeper : ℕ) (blocks : List ℕ) (dirty : List Bool) (found part : List ℕ)
+module _ {a : ℕ} {profile : ℕ → List Entry} {n D total many clean parts keeper : ℕ} {blocks : List ℕ} {dirty : List Bool} {found part : List ℕ}
     (numbered : Numbered n blocks total) (members : Members D n blocks dirty found many clean) (grouped : Grouped a profile many found parts part)
     (keeps : keeper < parts) where
-  -- members with one number
-  agree : (i k : ℕ) → i < many → k < many → getD found i 0 ≡ getD found k 0 → getD part i 0 ≡ getD part k 0
-  agree i k l m e = grouped .apart i k l m (λ j. ap (λ (q : ℕ). Rattle.profiles.specs.Sums.sumAt a (profile q) j) e)
+  -- a state that is found twice is in one part
+  pub split-agree : (i k : ℕ) → i < many → k < many → getD found i 0 ≡ getD found k 0 → getD part i 0 ≡ getD part k 0
+  split-agree i k l m e = grouped .apart i k l m (λ j. ap (λ (q : ℕ). sumAt a (profile q) j) e)
 
   block-known : D < total
   block-known =
@@ -151,7 +154,7 @@ module _ (a : ℕ) (profile : ℕ → List Entry) (n D total many clean parts ke
     where
       go : Dec (getD found i 0 ≡ getD found k 0) → (k < i → planned i (getD found k 0) ≡ numberOf keeper D total (getD part k 0))
           → cond (eqb (getD found i 0) (getD found k 0)) (numberOf keeper D total (getD part i 0)) (planned i (getD found k 0)) ≡ numberOf keeper D total (getD part k 0)
-      go (yes e) ih = rw (eq-eqb (getD found i 0) (getD found k 0) e) (ap (numberOf keeper D total) (agree i k (omega arith) (omega arith) e))
+      go (yes e) ih = rw (eq-eqb (getD found i 0) (getD found k 0) e) (ap (numberOf keeper D total) (split-agree i k (omega arith) (omega arith) e))
       go (no d) ih = rw (ne-eqb (getD found i 0) (getD found k 0) d) (ih (earlier (ℕ-discrete k i)))
         where
           earlier : Dec (k ≡ i) → k < i
@@ -172,10 +175,7 @@ module _ (a : ℕ) (profile : ℕ → List Entry) (n D total many clean parts ke
     higher = λ h. omega (arith, split-few, grouped .within i l);
   }
 
-  pub split-agree : (i k : ℕ) → i < many → k < many → getD found i 0 ≡ getD found k 0 → getD part i 0 ≡ getD part k 0
-  split-agree = agree
-
-  module _ (Depend : ℕ → ℕ → Type 0) (blocks′ : List ℕ) (dirty′ dirty″ : List Bool) (settled : Settled a profile n blocks dirty)
+  module _ (Depend : ℕ → ℕ → Type 0) {blocks′ : List ℕ} {dirty′ dirty″ : List Bool} (settled : Settled a profile n blocks dirty)
       (of-clean : clean < 256 → keeper ≡ getD part clean 0) (renumbered : Renumbered many D total keeper found part blocks dirty blocks′ dirty′)
       (marks : Marked (λ q. SomeIn 0 many (λ i. (getD part i 0 ≢ keeper) × Depend (getD found i 0) q)) dirty′ dirty″) where
     away : (q : ℕ) → getD blocks q 0 ≢ D → (k : ℕ) → k < many → getD found k 0 ≢ q
@@ -195,7 +195,7 @@ module _ (a : ℕ) (profile : ℕ → List Entry) (n D total many clean parts ke
     located p l b = go (found-or-not found many p)
       where
         profile-of : (q : ℕ) → q ≡ p → Same a (profile p) (profile q)
-        profile-of q e j = ap (λ (x : ℕ). Rattle.profiles.specs.Sums.sumAt a (profile x) j) (sym e)
+        profile-of q e j = ap (λ (x : ℕ). sumAt a (profile x) j) (sym e)
 
         unfound : ((k : ℕ) → k < many → getD found k 0 ≢ p) → (c : Bool) → flag dirty p ≡ c → In p
         unfound none true t = let r = members .dirty-found p l b t in absurd (none (r .0) (r .1) (r .2))
@@ -289,9 +289,9 @@ module _ (a : ℕ) (profile : ℕ → List Entry) (n D total many clean parts ke
     }
 
   -- the dirt of the block is cleared
-  pub fewer-dirty : (blocks′ : List ℕ) (dirty′ : List Bool) → Renumbered many D total keeper found part blocks dirty blocks′ dirty′ → (x : ℕ) → x < n → getD blocks x 0 ≡ D → flag dirty x ≡ true
+  pub fewer-dirty : {blocks′ : List ℕ} {dirty′ : List Bool} → Renumbered many D total keeper found part blocks dirty blocks′ dirty′ → (x : ℕ) → x < n → getD blocks x 0 ≡ D → flag dirty x ≡ true
       → dirtyCount dirty′ n < dirtyCount dirty n
-  fewer-dirty blocks′ dirty′ renumbered x l b t = count-less dirty dirty′ n x (λ q h e. was q e (found-or-not found many q)) l t
+  fewer-dirty {dirty′ = dirty′} renumbered x l b t = count-less dirty dirty′ n x (λ q h e. was q e (found-or-not found many q)) l t
       (let r = members .dirty-found x l b t in subst (λ (y : ℕ). flag dirty′ y ≡ false) (r .2) (renumbered .cleared (r .0) (r .1)))
     where
       was : (q : ℕ) → flag dirty′ q ≡ true → ((k : ℕ) × (k < many) × (getD found k 0 ≡ q)) ⊎ ((k : ℕ) → k < many → getD found k 0 ≢ q) → flag dirty q ≡ true

@@ -1,7 +1,1 @@
-pub mod Keys
-pub mod Lists
-pub mod Marks
-pub mod Numbering
-pub mod Parts
 pub mod Splits
-pub mod Steps

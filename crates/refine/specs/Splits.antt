@@ -1,18 +1,14 @@
 -- A step of the refinement: a block is split into parts.
-use Prim.Native.Nat.{ℕ, zero, suc, _<_}
-use mathlib.Core.Bool.{Bool, false, cond}
+use Prim.Native.Nat.{ℕ, _<_}
+use mathlib.Core.Bool.{Bool, false}
 use mathlib.Core.List.{List}
 use mathlib.Core.Logic.{_⊎_, _≢_, _↔_}
 use mathlib.Core.Path.{_≡_}
 use lib.ListN.{length, getD}
 use Rattle.profiles.specs.Entries.{Entry}
-use Rattle.refine.specs.Numbering.{Numbered}
-use Rattle.refine.specs.Parts.{Same, flag}
-
--- how many of the states below n are dirty
-unfoldable pub dirtyCount : List Bool → ℕ → ℕ
-dirtyCount dirty zero = 0
-dirtyCount dirty (suc n) = cond (flag dirty n) (suc (dirtyCount dirty n)) (dirtyCount dirty n)
+use Rattle.partition.specs.Members.{dirtyCount, flag}
+use Rattle.partition.specs.Numbering.{Numbered}
+use Rattle.grouping.specs.Groups.{Same}
 
 -- two clean states of one block have the same profile
 abbrev pub Settled : ℕ → (ℕ → List Entry) → ℕ → List ℕ → List Bool → Type 0

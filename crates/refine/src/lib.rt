@@ -1,92 +1,101 @@
 // The coarsest bisimulation of a table, in both directions. Blocks are split by the profiles of their members until no state is
 // left to look at; a state is looked at again only where a state that it depends on has a new block.
 
-mod dependents;
-mod keys;
-mod members;
-mod numbering;
-mod parts;
-
+use partition::Partition;
+use partition::members;
+use partition::numbering;
+use partition::parts;
 use states::State;
 use tables::TableRecord;
 ghost use mathlib.Core.Path.{_≡_};
-ghost use mathlib.Core.Bool.{true};
+ghost use mathlib.Core.Bool.{true, false};
 ghost use mathlib.Core.List.{map};
-ghost use Prim.Native.Nat.{_≤_, _<_};
+ghost use Prim.Native.Nat.{ℕ, _≤_, _<_};
 ghost use lib.ListN.{length, getD, take};
 ghost use Rattle.model.specs.Table.{Proper};
 ghost use Rattle.tables.specs.Record.{tableOf, Holds};
 ghost use Rattle.theory.specs.Blocks.{blockOf, blockCount};
 ghost use Rattle.theory.specs.Direction.{direction as sideOf, CoarsestBlocks};
-ghost use Rattle.refine.specs.Keys.{entryOf, Long};
-ghost use Rattle.refine.specs.Lists.{listed, Readable};
-ghost use Rattle.refine.specs.Marks.{Depends, otherSide};
-ghost use Rattle.refine.specs.Numbering.{Numbered};
-ghost use Rattle.refine.specs.Parts.{flag, Grouped};
+ghost use Rattle.uses.specs.Lists.{Long, listed, ListedUses};
+ghost use Rattle.partition.specs.Members.{flag};
+ghost use Rattle.partition.specs.Numbering.{Numbered};
+ghost use Rattle.grouping.specs.Keys.{entryOf};
+ghost use Rattle.dependents.specs.Marks.{Depends, otherSide};
 ghost use Rattle.refine.specs.Splits.{Settled, SplitUp};
 
-// The blocks of each state, numbered by first use. Answers how many there are.
-pub fn coarsest(direction: u32, table: TableRecord, blocks: &mut [u8; 256]) -> usize
-    requires { ⌜ (direction ≤ 1) × Holds table (tableOf table) × Proper (tableOf table) × (length (now blocks) ≡ 256) ⌝ }
-    ensures { λ r. ⌜ CoarsestBlocks (sideOf direction) (tableOf table) (take (table .states) (now (blocks .exit)))
-        × (r ≡ blockCount (blockOf (take (table .states) (now (blocks .exit)))) (table .states)) ⌝ }
+// The coarsest blocks, numbered by first use. Keys and codes are lent to work in.
+pub fn coarsest(
+    direction: u32,
+    table: TableRecord,
+    keys: &mut [u64; 16000],
+    codes: &mut [u32; 16000],
+) -> Partition
+    requires { ⌜ (direction ≤ 1) × Holds table (tableOf table) × Proper (tableOf table) × (length (now keys) ≡ 16000) × (length (now codes) ≡ 16000) ⌝ }
+    ensures { λ r. ⌜ CoarsestBlocks (sideOf direction) (tableOf table) (take (table .states) (r .blocks .list))
+        × (r .number ≡ blockCount (blockOf (take (table .states) (r .blocks .list))) (table .states))
+        × (length (now (keys .exit)) ≡ 16000) × (length (now (codes .exit)) ≡ 16000) ⌝ }
 {
     let arithmetic = table.arithmetic;
     let states = table.states;
     let count = table.count;
-    let own = uses::index_uses(
+    let mut starts = [0u16; 257];
+    let mut list = [0u16; 16000];
+    uses::index_uses(
         direction,
         count,
         &table.ranks,
         &table.symbol,
         &table.children,
         &table.target,
+        &mut starts,
+        &mut list,
     );
-    let other = uses::index_uses(
+    let mut other_starts = [0u16; 257];
+    let mut other_list = [0u16; 16000];
+    uses::index_uses(
         1 - direction,
         count,
         &table.ranks,
         &table.symbol,
         &table.children,
         &table.target,
+        &mut other_starts,
+        &mut other_list,
     );
     let mut dirty = [true; 256];
-    let mut keys = [0u64; 16000];
-    let mut codes = [0u32; 16000];
-    let mut total = numbering::start(direction, states, &table.finals, blocks);
+    let mut present = numbering::start(direction, states, &table.finals);
     let mut first = members::first_dirty(states, &dirty);
     while first < states {
-        total = split(
+        present = split(
             direction,
             arithmetic,
             states,
-            total,
+            present,
             State(first as u8),
             &table.ranks,
             &table.symbol,
             &table.children,
             &table.target,
             &table.code,
-            &own.starts,
-            &own.list,
-            &other.starts,
-            &other.list,
-            blocks,
+            &starts,
+            &list,
+            &other_starts,
+            &other_list,
             &mut dirty,
-            &mut keys,
-            &mut codes,
+            keys,
+            codes,
         );
         first = members::first_dirty(states, &dirty);
     }
-    numbering::by_first_use(states, blocks)
+    numbering::by_first_use(states, present.blocks)
 }
 
-// Splits the block of a dirty state by the profiles of its members. Answers how many blocks there are then.
+// Splits the block of the first dirty state by the profiles of its members.
 fn split<'a>(
     direction: u32,
     arithmetic: u32,
     states: usize,
-    total: usize,
+    present: Partition,
     first: State,
     ranks: &'a [u8; 128],
     symbol: &'a [u8; 4000],
@@ -97,27 +106,28 @@ fn split<'a>(
     list: &'a [u16; 16000],
     other_starts: &'a [u16; 257],
     other_list: &'a [u16; 16000],
-    blocks: &mut [u8; 256],
     dirty: &mut [bool; 256],
     keys: &mut [u64; 16000],
     codes: &mut [u32; 16000],
-) -> usize
-    requires { ⌜ Long (now ranks) (now symbol) (now children) (now target) × (length (now code) ≡ 4000) × (states ≤ 256) × Readable (sideOf direction) (now ranks) (now symbol) (now starts) (now list)
-        × Readable (otherSide (sideOf direction)) (now ranks) (now symbol) (now «other_starts») (now «other_list») × (length (now keys) ≡ 16000) × (length (now codes) ≡ 16000) × (length (now dirty) ≡ 256)
-        × Numbered states (now blocks) total × (first .0 < states) × (flag (now dirty) (first .0) ≡ true)
-        × Settled arithmetic (λ p. map (entryOf (sideOf direction) (now ranks) (now symbol) (now children) (now target) (now code) (blockOf (now blocks))) (listed (now starts) (now list) p)) states (now blocks) (now dirty) ⌝ }
+) -> Partition
+    requires { ⌜ Long (now ranks) (now symbol) (now children) (now target) × (length (now code) ≡ 4000) × (states ≤ 256) × ListedUses (sideOf direction) (now ranks) (now symbol) (now starts) (now list)
+        × ListedUses (otherSide (sideOf direction)) (now ranks) (now symbol) (now «other_starts») (now «other_list») × (length (now keys) ≡ 16000) × (length (now codes) ≡ 16000) × (length (now dirty) ≡ 256)
+        × Numbered states (present .blocks .list) (present .number) × (first .0 < states) × (flag (now dirty) (first .0) ≡ true) × ((q : ℕ) → q < first .0 → flag (now dirty) q ≡ false)
+        × Settled arithmetic (λ p. map (entryOf (sideOf direction) (now ranks) (now symbol) (now children) (now target) (now code) (blockOf (present .blocks .list))) (listed (now starts) (now list) p)) states (present .blocks .list) (now dirty) ⌝ }
     ensures { λ r. ⌜ (length (now (keys .exit)) ≡ 16000) × (length (now (codes .exit)) ≡ 16000)
-        × SplitUp arithmetic (λ p. map (entryOf (sideOf direction) (now (ranks .entry)) (now (symbol .entry)) (now (children .entry)) (now (target .entry)) (now (code .entry)) (blockOf (now (blocks .entry)))) (listed (now (starts .entry)) (now (list .entry)) p))
+        × SplitUp arithmetic (λ p. map (entryOf (sideOf direction) (now (ranks .entry)) (now (symbol .entry)) (now (children .entry)) (now (target .entry)) (now (code .entry)) (blockOf (present .blocks .list))) (listed (now (starts .entry)) (now (list .entry)) p))
         (Depends (sideOf direction) (now (ranks .entry)) (now (symbol .entry)) (now (children .entry)) (now (target .entry)) (now («other_starts» .entry)) (now («other_list» .entry)))
-        states (getD (now (blocks .entry)) (first .0) 0) (now (blocks .entry)) (now (dirty .entry)) total (now (blocks .exit)) (now (dirty .exit)) r ⌝ }
+        states (getD (present .blocks .list) (first .0) 0) (present .blocks .list) (now (dirty .entry)) (present .number) (r .blocks .list) (now (dirty .exit)) (r .number) ⌝ }
 {
-    let block = keys::block_of(blocks, first);
+    let blocks = present.blocks;
+    let total = present.number;
+    let block = blocks.of(first);
     let mut found = [0u8; 256];
     let mut part = [0u8; 256];
-    let gathered = members::gather(block, states, blocks, dirty, &mut found);
+    let gathered = members::gather(first, states, blocks, dirty, &mut found);
     let many = gathered.count;
     let clean = gathered.clean;
-    let parts = group(
+    let parts = grouping::group(
         direction,
         arithmetic,
         many,
@@ -135,9 +145,12 @@ fn split<'a>(
         codes,
     );
     let keeper = parts::keeper(many, clean, parts, &part);
-    parts::renumber(many, block, total, keeper, &found, &part, blocks, dirty);
+    let renumbered = parts::renumber(many, block, total, keeper, &found, &part, blocks, dirty);
     if parts == 1 {
-        return total;
+        return Partition {
+            blocks: renumbered,
+            number: total,
+        };
     }
     dependents::mark_moved(
         direction,
@@ -153,54 +166,8 @@ fn split<'a>(
         other_list,
         dirty,
     );
-    total + parts - 1
-}
-
-// Puts members into parts by their profiles under the present blocks. Answers how many parts there are.
-fn group<'a>(
-    direction: u32,
-    arithmetic: u32,
-    many: usize,
-    found: &[u8; 256],
-    ranks: &'a [u8; 128],
-    symbol: &'a [u8; 4000],
-    children: &'a [u8; 16000],
-    target: &'a [u8; 4000],
-    code: &'a [u32; 4000],
-    starts: &'a [u16; 257],
-    list: &'a [u16; 16000],
-    blocks: &[u8; 256],
-    part: &mut [u8; 256],
-    keys: &mut [u64; 16000],
-    codes: &mut [u32; 16000],
-) -> usize
-    requires { ⌜ Long (now ranks) (now symbol) (now children) (now target) × (length (now code) ≡ 4000) × (length (now blocks) ≡ 256) × Readable (sideOf direction) (now ranks) (now symbol) (now starts) (now list) × (length (now keys) ≡ 16000) × (length (now codes) ≡ 16000)
-        × (length (now found) ≡ 256) × (length (now part) ≡ 256) × (many ≤ 256) ⌝ }
-    ensures { λ r. ⌜ (length (now (keys .exit)) ≡ 16000) × (length (now (codes .exit)) ≡ 16000) × (length (now (part .exit)) ≡ 256)
-        × Grouped arithmetic (λ p. map (entryOf (sideOf direction) (now (ranks .entry)) (now (symbol .entry)) (now (children .entry)) (now (target .entry)) (now (code .entry)) (blockOf (now (blocks .entry)))) (listed (now (starts .entry)) (now (list .entry)) p)) many (now (found .entry)) r (now (part .exit)) ⌝ }
-{
-    // a member that is alone has no profile to compare
-    if many == 1 {
-        part[0] = 0;
-        return 1;
+    Partition {
+        blocks: renumbered,
+        number: total + parts - 1,
     }
-    let mut ends = [0u16; 256];
-    keys::sum_up_members(
-        direction,
-        arithmetic,
-        many,
-        found,
-        ranks,
-        symbol,
-        children,
-        target,
-        code,
-        starts,
-        list,
-        blocks,
-        &mut ends,
-        keys,
-        codes,
-    );
-    parts::group(many, found, starts, &ends, keys, codes, part)
 }

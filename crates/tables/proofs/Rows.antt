@@ -8,24 +8,18 @@ use native.Mathlib.Omega.{arith}
 use native.Mathlib.Nat.{sub-zero, add-zero, zero-add}
 use native.Mathlib.Numerals.{add-one}
 use lib.ListN.{take, drop, getD}
-use lib.Seq.{getD-take, take-take, take-nil}
+use lib.Seq.{getD-take}
 use Rattle.answers.specs.declared.Refusal.{Refusal}
 use Rattle.answers.specs.declared.Refusal.the-variants.{NotAbove}
 use Rattle.numbers.specs.declared.Cursor.{Cursor}
 use Rattle.model.specs.Table.{Transition, key, lower}
 use Rattle.format.specs.Read.{Found, found, refused, after, transitionAt, transitionsAt}
 use Rattle.tables.specs.Record.{Columns, rowAt, rowsFrom, keyBefore}
+use Rattle.tables.specs.Rows.{part-of-front}
 use Rattle.tables.specs.Steps.{Small, Kept, Long, RowRead, RowsRead}
 use Rattle.tables.specs.declared.Step.{Step}
 use Rattle.tables.specs.declared.Step.the-variants.{Next, Refused}
 use Rattle.tables.proofs.Filling.{prefixed, prefixed-none, prefixed-prefixed}
-
--- a part of a list that ends before b is a part of its first b members
-part-of-front : {A : Type 0} (r a b : ℕ) (l : List A) → a + r ≤ b → take r (drop a (take b l)) ≡ take r (drop a l)
-part-of-front r a b [] h = rw take-nil
-part-of-front r zero b (x ∷ l) h = take-take r b (x ∷ l) (omega arith)
-part-of-front r (suc a) zero (x ∷ l) h = absurd (omega arith)
-part-of-front r (suc a) (suc b) (x ∷ l) h = part-of-front r a b l (omega arith)
 
 -- rows of the columns
 rows-same : (c d : Columns) (m k : ℕ) → ((i : ℕ) → m ≤ i → i < m + k → rowAt c i ≡ rowAt d i) → rowsFrom c m k ≡ rowsFrom d m k

@@ -1,5 +1,6 @@
 -- Backward and forward bisimulation of a table (document 01, "Definitions"; source 001, definitions 16 and 1).
-use mathlib.Core.Path.{_≡_, sym, _∙_, subst}
+use mathlib.Core.Logic.{_≢_}
+use mathlib.Core.Path.{_≡_, refl, sym, ap, _∙_, subst}
 use mathlib.Core.List.{List, _∷_, _++_, map}
 use Prim.Native.Nat.{ℕ, zero, suc, _<_}
 use lib.Dec.{eqb}
@@ -20,6 +21,13 @@ pub data Direction : Type 0 where
 abbrev pub direction : ℕ → Direction
 direction zero = backward
 direction (suc d) = forward
+
+pub side-backward : (side : ℕ) → side ≡ 0 → direction side ≡ backward
+side-backward side e = ap direction e
+
+pub side-forward : (side : ℕ) → side ≢ 0 → direction side ≡ forward
+side-forward zero h = absurd (h refl)
+side-forward (suc side) h = refl
 
 -- The codes of the table X, read in arithmetic a.
 module _ (a : ℕ) (X : Table) where

@@ -16,6 +16,9 @@ pub true-of : (c : Bool) → T c → c ≡ true
 true-of true t = refl
 true-of false t = absurd t
 
+pub not-both : (c : Bool) → c ≡ true → c ≡ false → ⊥
+not-both c t f = subst T (sym t ∙ f) tt
+
 pub of-true : (c : Bool) → c ≡ true → T c
 of-true c e = subst T (sym e) tt
 

@@ -1,4 +1,4 @@
--- Document 01's worked examples, proved of the definitions.
+-- Document 01's worked examples as tables. The list itself, about bytes, is in collapse/specs/Examples.antt.
 use mathlib.Core.Path.{_≡_, refl}
 use mathlib.Core.List.{List, [], _∷_}
 use Prim.Native.Nat.{ℕ, _^_, _<_, _≤_}
@@ -70,7 +70,7 @@ tableE = table 0 4 (0 ∷ 0 ∷ 0 ∷ 1 ∷ []) (a→ 0 1 ∷ g→ 0 1 1 ∷ g�
 abbrev pub tableF : Table
 tableF = table 0 1 (5 ∷ []) []
 
--- 01's list
+-- the part of 01's list that speaks of tables
 pub record Examples : Type 0 where
   pub p1 : CoarsestBlocks backward tableA (0 ∷ 0 ∷ 1 ∷ [])
   pub p2 : CollapsedByCoarsest backward tableA tableA-collapsed

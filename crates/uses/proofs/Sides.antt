@@ -1,14 +1,8 @@
 -- Which numbers are uses, by the number of the side.
-use Prim.Native.Nat.{ℕ, zero, suc, _/_, _≤_, _<_}
-use mathlib.Core.Logic.{_≢_}
-use mathlib.Core.Path.{_≡_, refl}
+use Prim.Native.Nat.{ℕ, _/_, _≤_, _<_}
 use native.Mathlib.Omega.{arith}
-use Rattle.theory.specs.Direction.{Direction, backward, forward, direction}
+use Rattle.theory.specs.Direction.{Direction, backward, forward}
 use Rattle.uses.specs.Numbers.{limit}
-
-pub side-forward : (side : ℕ) → side ≢ 0 → direction side ≡ forward
-side-forward zero h = absurd (h refl)
-side-forward (suc side) h = refl
 
 pub limit-few : (d : Direction) (count : ℕ) → count ≤ 4000 → limit d count ≤ 16000
 limit-few backward count h = omega arith

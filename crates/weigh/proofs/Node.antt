@@ -19,6 +19,7 @@ use Rattle.theory.specs.Arithmetic.{arithmetic, Weight, meaning}
 use Rattle.theory.specs.Weight.{weightAt, productAt}
 use Rattle.trees.specs.Written.{accepted}
 use Rattle.trees.specs.Subtrees.{starts, rankAt, subtree, subtrees, subtree-node, starts-enough, starts-within}
+use Rattle.tables.specs.Rows.{rows-length, each-row}
 use Rattle.tables.specs.Record.{Columns, rowAt, tableIn}
 use Rattle.weigh.specs.declared.Row.{Row}
 use Rattle.weigh.specs.Numbers.{StandsFor}
@@ -26,7 +27,7 @@ use Rattle.weigh.specs.Index.{Begins}
 use Rattle.weigh.specs.Rows.{rowOf, Sources, sources, childPlace, childNumber, productOf, sumInto, Sized, Ready, RowReady}
 use Rattle.weigh.specs.Steps.{Weighable}
 use Rattle.weigh.proofs.Bounds.{stands-weight, stands-good}
-use Rattle.weigh.proofs.Transitions.{length-rows, each-row, sum-rows, range-ordered, range-symbol}
+use Rattle.weigh.proofs.Transitions.{sum-rows, range-ordered, range-symbol}
 use Rattle.weigh.proofs.Sums.{sum-part, sum-range}
 use Rattle.weigh.proofs.Products.{productOf-productAt}
 use Rattle.weigh.proofs.Filling.{Filling, filling-stands}
@@ -51,7 +52,7 @@ module _ {a n symbols count : ℕ} {finals : List ℕ} {c : Columns} {tree : Lis
   symbols-few = let few = weighable .proper .symbols-few in let same = weighable .symbols-are in omega arith
 
   pub transitions-few : count ≤ 4000
-  transitions-few = let few = weighable .proper .transitions-few in let same = length-rows c 0 count in omega arith
+  transitions-few = let few = weighable .proper .transitions-few in let same = rows-length c 0 count in omega arith
 
   -- transition j is one of the table's
   pub row-proper : (j : ℕ) → j < count → ProperTransition (X .ranks) n (rowAt c j)

@@ -6,29 +6,14 @@ use mathlib.Core.List.{List, _∷_}
 use native.Mathlib.Omega.{arith}
 use native.Mathlib.Decide.{decLe}
 use lib.Dec.{T, eqb, eqb→eq, ltb, ltb→lt}
-use lib.ListN.{length, getD}
-use Rattle.model.specs.Table.{Transition, Each, Ascending, lower}
+use lib.ListN.{getD}
+use Rattle.model.specs.Table.{Transition, Ascending, lower}
 use Rattle.theory.specs.Equality.{of-true}
 use Rattle.theory.specs.Semiring.{Semiring}
 use Rattle.theory.specs.Sum.{sum}
 use Rattle.theory.specs.Below.{upFrom}
 use Rattle.tables.specs.Record.{Columns, rowAt, rowsFrom}
 use Rattle.weigh.specs.Index.{Begins, Rising}
-
-pub length-rows : (c : Columns) (m k : ℕ) → length (rowsFrom c m k) ≡ k
-unfolding rowsFrom
-length-rows c m zero = refl
-length-rows c m (suc k) = ap suc (length-rows c (suc m) k)
-
--- what holds of each transition holds of transition i
-pub each-row : (P : Transition → Type 0) (c : Columns) (m k : ℕ) → Each P (rowsFrom c m k) → (i : ℕ) → m ≤ i → i < m + k → P (rowAt c i)
-unfolding rowsFrom
-each-row P c m zero h i l n = absurd (omega arith)
-each-row P c m (suc k) h i l n = go (decLe (suc m) i) (each-row P c (suc m) k (h .1) i)
-  where
-    go : Dec (suc m ≤ i) → (suc m ≤ i → i < suc m + k → P (rowAt c i)) → P (rowAt c i)
-    go (yes later) rest = rest later (omega arith)
-    go (no first) rest = let same : i ≡ m = omega arith in rw same (h .0)
 
 -- a sum over transitions is a sum over their numbers
 pub sum-rows : (S : Semiring) (f : Transition → S .Carrier) (c : Columns) (m k : ℕ) → sum S (rowsFrom c m k) f ≡ sum S (upFrom m k) (λ j. f (rowAt c j))

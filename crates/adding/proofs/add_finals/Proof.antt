@@ -9,7 +9,7 @@ use Rattle.adding.proofs.add_finals.Statement.{statement}
 use Rattle.adding.proofs.add_finals.Tie as tie
 
 abbrev Inv-loop : tie.InvT-loop
-Inv-loop arithmetic states finals blocks sums₀ q₀ sums q = Totalling arithmetic states finals (blockOf blocks) sums q
+Inv-loop arithmetic states finals blocks sums₀ q₀ sums q = Totalling arithmetic states finals (blockOf (blocks .list)) sums q
 
 abbrev μ-loop : tie.MeasureT-loop
 μ-loop arithmetic states finals blocks sums₀ q₀ sums q = states - q
@@ -20,8 +20,8 @@ loop-holds c = totalling-starts _ _ _ _
 cast-t10 : tie.Need-cast-t10 Inv-loop μ-loop
 cast-t10 c = search needs
 
-block-of-requires : tie.Need-block-of-requires Inv-loop μ-loop
-block-of-requires c κs = search needs
+of-requires : tie.Need-of-requires Inv-loop μ-loop
+of-requires c κs = search needs
 
 wide-requires : tie.Need-wide-requires Inv-loop μ-loop
 wide-requires c κs = search needs
@@ -56,7 +56,7 @@ loop-less c = search needs
 loop-again : tie.Need-loop-again Inv-loop μ-loop
 loop-again c =
     let l = c .before .before .before .before .before .loop in
-    totalling-goes-on _ _ _ _ (l .sums) (l .q) (l .inv) (c .before .before .before .before .loop-test .taken) _ _ (c .before .before .wide .ensures .0 ∙ c .before .before .before .block-of .ensures) (c .before .before .wide .ensures .1) (c .sum-of-codes .ensures)
+    totalling-goes-on _ _ _ _ (l .sums) (l .q) (l .inv) (c .before .before .before .before .loop-test .taken) _ _ (c .before .before .wide .ensures .0 ∙ c .before .before .before .of .ensures) (c .before .before .wide .ensures .1) (c .sum-of-codes .ensures)
 
 returns : tie.Need-returns Inv-loop μ-loop
 returns c = (c .before .loop .inv .long, totalling-ends _ _ _ _ (c .before .loop .sums) (c .before .loop .q) (c .before .loop .inv) (c .loop-test .left))
@@ -69,7 +69,7 @@ add-finals-spec =
     μ-loop
     loop-holds
     cast-t10
-    block-of-requires
+    of-requires
     wide-requires
     mul-sum-of-codes
     array-read-sum-of-codes

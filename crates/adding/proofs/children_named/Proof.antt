@@ -14,7 +14,7 @@ use Rattle.adding.proofs.children_named.Statement.{statement}
 use Rattle.adding.proofs.children_named.Tie as tie
 
 abbrev Inv-loop : tie.InvT-loop
-Inv-loop j ranks symbol children blocks names own rank k₀ k = Checking (blockOf blocks) (nameOf names) (kidsOf children rank j) k
+Inv-loop j ranks symbol children blocks names own rank k₀ k = Checking (blockOf (blocks .list)) (nameOf (names .list)) (kidsOf children rank j) k
 
 abbrev μ-loop : tie.MeasureT-loop
 μ-loop j ranks symbol children blocks names own rank k₀ k = rank - k
@@ -38,20 +38,20 @@ rank-is c =
     c .before .wide2 .ensures .0 ∙ ap (λ (i : ℕ). getD (a .ranks .now) i 0) (c .before .before .before .wide .ensures .0)
 
 rank-few : (c : tie.At-loop Inv-loop μ-loop) → c .before .wide2 .result ≤ 4
-rank-few c = rw (rank-is c) (c .before .before .before .before .before .pre .5 .rank-small)
+rank-few c = rw (rank-is c) (c .before .before .before .before .before .pre .3 .rank-small)
 
 many : (c : tie.At-loop Inv-loop μ-loop) → let a = c .before .before .before .before .before .args in length (kidsOf (a .children .now) (c .before .wide2 .result) (a .j)) ≡ c .before .wide2 .result
 many c =
     let s = c .before .before .before .before .before in
-    kids-many (s .args .children .now) (c .before .wide2 .result) (s .args .j) (s .pre .2) (s .pre .5 .inside) (rank-few c)
+    kids-many (s .args .children .now) (c .before .wide2 .result) (s .args .j) (s .pre .2) (s .pre .3 .inside) (rank-few c)
 
 -- the child at place k
 child-named : (c : tie.At-loop Inv-loop μ-loop) → c .loop .k < c .before .wide2 .result → let a = c .before .before .before .before .before .args in
-    eqb (nameOf (a .names .now) (blockOf (a .blocks .now) (getD (kidsOf (a .children .now) (c .before .wide2 .result) (a .j)) (c .loop .k) 0))) (getD (kidsOf (a .children .now) (c .before .wide2 .result) (a .j)) (c .loop .k) 0)
-    ≡ eqb (nameOf (a .names .now) (blockOf (a .blocks .now) (getD (a .children .now) (a .j * 4 + c .loop .k) 0))) (getD (a .children .now) (a .j * 4 + c .loop .k) 0)
+    eqb (nameOf (a .names .list) (blockOf (a .blocks .list) (getD (kidsOf (a .children .now) (c .before .wide2 .result) (a .j)) (c .loop .k) 0))) (getD (kidsOf (a .children .now) (c .before .wide2 .result) (a .j)) (c .loop .k) 0)
+    ≡ eqb (nameOf (a .names .list) (blockOf (a .blocks .list) (getD (a .children .now) (a .j * 4 + c .loop .k) 0))) (getD (a .children .now) (a .j * 4 + c .loop .k) 0)
 child-named c more =
     let s = c .before .before .before .before .before in
-    ap (λ (q : ℕ). eqb (nameOf (s .args .names .now) (blockOf (s .args .blocks .now) q)) q) (kids-at (s .args .children .now) (c .before .wide2 .result) (s .args .j) (s .pre .2) (s .pre .5 .inside) (rank-few c) (c .loop .k) more)
+    ap (λ (q : ℕ). eqb (nameOf (s .args .names .list) (blockOf (s .args .blocks .list) q)) q) (kids-at (s .args .children .now) (c .before .wide2 .result) (s .args .j) (s .pre .2) (s .pre .3 .inside) (rank-few c) (c .loop .k) more)
 
 loop-holds : tie.Need-loop-holds Inv-loop μ-loop
 loop-holds c = checking-starts _ _ _
@@ -73,9 +73,9 @@ returns c =
     let s = c .before .before .before .before .before .before .before .before .before in
     let l = c .before .before .before .before .loop in
     let more = c .before .before .before .loop-test .taken in
-    checking-fails (blockOf (s .args .blocks .now)) (nameOf (s .args .names .now)) (kidsOf (s .args .children .now) (c .before .before .before .before .before .wide2 .result) (s .args .j)) (l .k) (l .inv) (omega (arith, many (c .before .before .before .before)))
+    checking-fails (blockOf (s .args .blocks .list)) (nameOf (s .args .names .list)) (kidsOf (s .args .children .now) (c .before .before .before .before .before .wide2 .result) (s .args .j)) (l .k) (l .inv) (omega (arith, many (c .before .before .before .before)))
     (child-named (c .before .before .before .before) more ∙ sym (c .before .is-named .ensures) ∙ not-true (c .before .is-named .result) (c .if1 .taken))
-    ∙ ap (λ (k : ℕ). allNamed (blockOf (s .args .blocks .now)) (nameOf (s .args .names .now)) (kidsOf (s .args .children .now) k (s .args .j))) (rank-is (c .before .before .before .before))
+    ∙ ap (λ (k : ℕ). allNamed (blockOf (s .args .blocks .list)) (nameOf (s .args .names .list)) (kidsOf (s .args .children .now) k (s .args .j))) (rank-is (c .before .before .before .before))
 
 add-k : tie.Need-add-k Inv-loop μ-loop
 add-k c = search needs
@@ -88,14 +88,14 @@ loop-again c =
     let s = c .before .before .before .before .before .before .before .before .before in
     let l = c .before .before .before .before .loop in
     let more = c .before .before .before .loop-test .taken in
-    checking-goes-on (blockOf (s .args .blocks .now)) (nameOf (s .args .names .now)) (kidsOf (s .args .children .now) (c .before .before .before .before .before .wide2 .result) (s .args .j)) (l .k) (l .inv) (omega (arith, many (c .before .before .before .before)))
+    checking-goes-on (blockOf (s .args .blocks .list)) (nameOf (s .args .names .list)) (kidsOf (s .args .children .now) (c .before .before .before .before .before .wide2 .result) (s .args .j)) (l .k) (l .inv) (omega (arith, many (c .before .before .before .before)))
     (child-named (c .before .before .before .before) more ∙ sym (c .before .is-named .ensures) ∙ not-false (c .before .is-named .result) (c .if1 .left))
 
 returns-2 : tie.Need-returns-2 Inv-loop μ-loop
 returns-2 c =
     let s = c .before .before .before .before .before .before in
-    checking-ends (blockOf (s .args .blocks .now)) (nameOf (s .args .names .now)) (kidsOf (s .args .children .now) (c .before .before .wide2 .result) (s .args .j)) (c .before .loop .k) (c .before .loop .inv) (omega (arith, many (c .before), c .loop-test .left))
-    ∙ ap (λ (k : ℕ). allNamed (blockOf (s .args .blocks .now)) (nameOf (s .args .names .now)) (kidsOf (s .args .children .now) k (s .args .j))) (rank-is (c .before))
+    checking-ends (blockOf (s .args .blocks .list)) (nameOf (s .args .names .list)) (kidsOf (s .args .children .now) (c .before .before .wide2 .result) (s .args .j)) (c .before .loop .k) (c .before .loop .inv) (omega (arith, many (c .before), c .loop-test .left))
+    ∙ ap (λ (k : ℕ). allNamed (blockOf (s .args .blocks .list)) (nameOf (s .args .names .list)) (kidsOf (s .args .children .now) k (s .args .j))) (rank-is (c .before))
 
 pub children-named-spec : {M : Type 1} → statement M
 children-named-spec =

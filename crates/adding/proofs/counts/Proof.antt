@@ -1,6 +1,6 @@
 -- `adding::counts` meets its contract, for each side.
 -- Assumes nothing.
-use Rattle.adding.proofs.Sides.{side-backward, side-forward}
+use Rattle.theory.specs.Direction.{side-backward, side-forward}
 use borrow.Author.Needs.{needs}
 use Rattle.adding.proofs.counts.Statement.{statement}
 use Rattle.adding.proofs.counts.Tie as tie

@@ -1,7 +1,7 @@
 -- `adding::final_codes` meets its contract, for each side.
 -- Assumes nothing.
 use native.Mathlib.Omega.{arith}
-use Rattle.adding.proofs.Sides.{side-backward, side-forward}
+use Rattle.theory.specs.Direction.{side-backward, side-forward}
 use borrow.Author.Needs.{needs}
 use Rattle.adding.proofs.final_codes.Statement.{statement}
 use Rattle.adding.proofs.final_codes.Tie as tie

@@ -16,7 +16,7 @@ use Rattle.adding.proofs.gather.Tie as tie
 
 abbrev Inv-loop : tie.InvT-loop
 Inv-loop direction count ranks symbol children target code blocks names keys₀ codes₀ many₀ j₀ keys codes many j =
-    Gathering (blockOf blocks) (nameOf names) (sideOf direction) (columns ranks symbol children target code) count keys codes many j
+    Gathering (blockOf (blocks .list)) (nameOf (names .list)) (sideOf direction) (columns ranks symbol children target code) count keys codes many j
 
 abbrev μ-loop : tie.MeasureT-loop
 μ-loop direction count ranks symbol children target code blocks names keys₀ codes₀ many₀ j₀ keys codes many j =
@@ -27,17 +27,17 @@ many-few : (c : tie.In-loop Inv-loop μ-loop) → c .before .loop .many < 4000
 many-few c = omega (arith, c .before .loop .inv .few, c .loop-test .taken, c .before .before .pre .1 .0)
 
 loop-holds : tie.Need-loop-holds Inv-loop μ-loop
-loop-holds c = gathering-starts _ _ _ _ _ _ _ (c .pre .4) (c .pre .5)
+loop-holds c = gathering-starts _ _ _ _ _ _ _ (c .pre .2) (c .pre .3)
 
 counts-requires : tie.Need-counts-requires Inv-loop μ-loop
 counts-requires c κs =
     let p = c .before .before .pre in
-    (p .0 .ranks, p .0 .symbol, p .0 .children, p .0 .target, p .2, p .3, p .1 .1 (c .before .loop .j) (c .loop-test .taken))
+    (p .0 .ranks, p .0 .symbol, p .0 .children, p .0 .target, p .1 .1 (c .before .loop .j) (c .loop-test .taken))
 
 key-of-requires : tie.Need-key-of-requires Inv-loop μ-loop
 key-of-requires c κs =
     let p = c .before .before .before .before .pre in
-    (p .0 .ranks, p .0 .symbol, p .0 .children, p .0 .target, search needs, p .1 .1 (c .before .before .before .loop .j) (c .before .before .loop-test .taken))
+    (p .0 .ranks, p .0 .symbol, p .0 .children, p .0 .target, p .1 .1 (c .before .before .before .loop .j) (c .before .before .loop-test .taken))
 
 mul-keys : tie.Need-mul-keys Inv-loop μ-loop
 mul-keys c = let few = many-few (c .before .before .before) in omega arith
@@ -71,7 +71,7 @@ loop-again c =
     let s = c .before .before .before .before in
     let l = c .before .before .before .loop in
     let more = c .before .before .loop-test .taken in
-    let counts-is = counted-same (blockOf (s .args .blocks .now)) (nameOf (s .args .names .now)) (sideOf (s .args .direction))
+    let counts-is = counted-same (blockOf (s .args .blocks .list)) (nameOf (s .args .names .list)) (sideOf (s .args .direction))
     (rowAt (columns (s .args .ranks .now) (s .args .symbol .now) (s .args .children .now) (s .args .target .now) (s .args .code .now)) (l .j))
     (rowAt (columns (s .args .ranks .now) (s .args .symbol .now) (s .args .children .now) (s .args .target .now) []) (l .j)) refl refl ∙ sym (c .before .counts .ensures) in
     ⊎-elim

@@ -14,7 +14,7 @@ use Rattle.adding.proofs.key_of.Statement.{statement}
 use Rattle.adding.proofs.key_of.Tie as tie
 
 abbrev Inv-loop : tie.InvT-loop
-Inv-loop j ranks symbol children target blocks own rank packed₀ k₀ packed k = Keying (blockOf blocks) (kidsOf children rank j) packed k
+Inv-loop j ranks symbol children target blocks own rank packed₀ k₀ packed k = Keying (blockOf (blocks .list)) (kidsOf children rank j) packed k
 
 abbrev μ-loop : tie.MeasureT-loop
 μ-loop j ranks symbol children target blocks own rank packed₀ k₀ packed k = rank - k
@@ -38,12 +38,12 @@ rank-is c =
     c .before .wide2 .ensures .0 ∙ ap (λ (i : ℕ). getD (a .ranks .now) i 0) (c .before .before .before .wide .ensures .0)
 
 rank-few : (c : tie.At-loop Inv-loop μ-loop) → c .before .wide2 .result ≤ 4
-rank-few c = rw (rank-is c) (c .before .before .before .before .before .pre .5 .rank-small)
+rank-few c = rw (rank-is c) (c .before .before .before .before .before .pre .4 .rank-small)
 
 many : (c : tie.At-loop Inv-loop μ-loop) → let a = c .before .before .before .before .before .args in length (kidsOf (a .children .now) (c .before .wide2 .result) (a .j)) ≡ c .before .wide2 .result
 many c =
     let s = c .before .before .before .before .before in
-    kids-many (s .args .children .now) (c .before .wide2 .result) (s .args .j) (s .pre .2) (s .pre .5 .inside) (rank-few c)
+    kids-many (s .args .children .now) (c .before .wide2 .result) (s .args .j) (s .pre .2) (s .pre .4 .inside) (rank-few c)
 
 packed-few : (c : tie.At-loop Inv-loop μ-loop) → c .loop .packed < 4294967296
 packed-few c =
@@ -62,8 +62,8 @@ add-t21 c = search needs
 element-copy-out-t24 : tie.Need-element-copy-out-t24 Inv-loop μ-loop
 element-copy-out-t24 c = let few = rank-few (c .before) in omega arith
 
-block-of-requires : tie.Need-block-of-requires Inv-loop μ-loop
-block-of-requires c κs = search needs
+of-requires : tie.Need-of-requires Inv-loop μ-loop
+of-requires c κs = search needs
 
 mul-packed : tie.Need-mul-packed Inv-loop μ-loop
 mul-packed c = let small = packed-few (c .before .before .before) in omega arith
@@ -86,13 +86,13 @@ loop-again c =
     let l = c .before .before .before .before .loop in
     let more = c .before .before .before .loop-test .taken in
     keying-goes-on _ _ (l .packed) (l .k) (l .inv) (omega (arith, many (c .before .before .before .before))) _
-    (c .long .ensures .0 ∙ c .before .block-of .ensures ∙ ap (blockOf (s .args .blocks .now)) (sym (kids-at (s .args .children .now) (c .before .before .before .before .before .wide2 .result) (s .args .j) (s .pre .2) (s .pre .5 .inside) (rank-few (c .before .before .before .before)) (l .k) more))) (c .long .ensures .1)
+    (c .long .ensures .0 ∙ c .before .of .ensures ∙ ap (blockOf (s .args .blocks .list)) (sym (kids-at (s .args .children .now) (c .before .before .before .before .before .wide2 .result) (s .args .j) (s .pre .2) (s .pre .4 .inside) (rank-few (c .before .before .before .before)) (l .k) more))) (c .long .ensures .1)
 
 element-copy-out-t15 : tie.Need-element-copy-out-t15 Inv-loop μ-loop
 element-copy-out-t15 c = search needs
 
-block-of-requires-2 : tie.Need-block-of-requires-2 Inv-loop μ-loop
-block-of-requires-2 c κs = search needs
+of-requires-2 : tie.Need-of-requires-2 Inv-loop μ-loop
+of-requires-2 c κs = search needs
 
 long-requires-2 : tie.Need-long-requires-2 Inv-loop μ-loop
 long-requires-2 c κs = search needs
@@ -117,12 +117,12 @@ returns c =
     let s = c .before .before .before .before .before .before .before .before .before .before in
     let l = c .before .before .before .before .before .loop in
     let kids : List ℕ = kidsOf (s .args .children .now) (getD (s .args .ranks .now) (getD (s .args .symbol .now) (s .args .j) 0) 0) (s .args .j) in
-    let whole : l .packed ≡ packed 0 (map (blockOf (s .args .blocks .now)) kids) =
+    let whole : l .packed ≡ packed 0 (map (blockOf (s .args .blocks .list)) kids) =
     keying-ends _ _ (l .packed) (l .k) (l .inv) (omega (arith, many (c .before .before .before .before .before), c .before .before .before .before .loop-test .left))
-    ∙ ap (λ (k : ℕ). packed 0 (map (blockOf (s .args .blocks .now)) (kidsOf (s .args .children .now) k (s .args .j)))) (rank-is (c .before .before .before .before .before)) in
-    let block : c .long3 .result ≡ blockOf (s .args .blocks .now) (getD (s .args .target .now) (s .args .j) 0) = c .long3 .ensures .0 ∙ c .before .before .block-of2 .ensures in
+    ∙ ap (λ (k : ℕ). packed 0 (map (blockOf (s .args .blocks .list)) (kidsOf (s .args .children .now) k (s .args .j)))) (rank-is (c .before .before .before .before .before)) in
+    let block : c .long3 .result ≡ blockOf (s .args .blocks .list) (getD (s .args .target .now) (s .args .j) 0) = c .long3 .ensures .0 ∙ c .before .before .of2 .ensures in
     ap₂ (λ (σ n : ℕ). σ * 1099511627776 + n) (c .before .long2 .ensures .0)
-    (ap₂ (λ (n D : ℕ). n * 256 + D) whole block ∙ sym (packed-last 0 (map (blockOf (s .args .blocks .now)) kids) _))
+    (ap₂ (λ (n D : ℕ). n * 256 + D) whole block ∙ sym (packed-last 0 (map (blockOf (s .args .blocks .list)) kids) _))
 
 pub key-of-spec : {M : Type 1} → statement M
 key-of-spec =
@@ -138,7 +138,7 @@ key-of-spec =
     mul-t20
     add-t21
     element-copy-out-t24
-    block-of-requires
+    of-requires
     mul-packed
     long-requires
     add-packed
@@ -146,7 +146,7 @@ key-of-spec =
     loop-less
     loop-again
     element-copy-out-t15
-    block-of-requires-2
+    of-requires-2
     long-requires-2
     mul-result
     mul-result-2

@@ -10,7 +10,7 @@ use Rattle.adding.proofs.named_finals.Statement.{statement}
 use Rattle.adding.proofs.named_finals.Tie as tie
 
 abbrev Inv-loop : tie.InvT-loop
-Inv-loop number finals names codes₀ block₀ codes block = Choosing (λ D. getD finals (nameOf names D) 0) number codes block
+Inv-loop number finals names codes₀ block₀ codes block = Choosing (λ D. getD finals (nameOf (names .list) D) 0) number codes block
 
 abbrev μ-loop : tie.MeasureT-loop
 μ-loop number finals names codes₀ block₀ codes block = number - block
@@ -21,8 +21,8 @@ loop-holds c = choosing-starts _ _
 cast-t8 : tie.Need-cast-t8 Inv-loop μ-loop
 cast-t8 c = search needs
 
-name-of-requires : tie.Need-name-of-requires Inv-loop μ-loop
-name-of-requires c κs = search needs
+of-requires : tie.Need-of-requires Inv-loop μ-loop
+of-requires c κs = search needs
 
 wide-requires : tie.Need-wide-requires Inv-loop μ-loop
 wide-requires c κs = search needs
@@ -50,7 +50,7 @@ loop-again c =
     let s = c .before .before .before .before .before in
     let l = c .before .before .before .before .loop in
     choosing-goes-on _ _ (l .codes) (l .block) (l .inv) (c .before .before .before .loop-test .taken) (s .pre .0) _
-    (ap (λ (q : ℕ). getD (s .args .finals .now) q 0) (c .before .wide .ensures .0 ∙ c .before .before .name-of .ensures))
+    (ap (λ (q : ℕ). getD (s .args .finals .now) q 0) (c .before .wide .ensures .0 ∙ c .before .before .of .ensures))
 
 returns : tie.Need-returns Inv-loop μ-loop
 returns c = choosing-ends _ _ (c .before .loop .codes) (c .before .loop .block) (c .before .loop .inv) (c .loop-test .left)
@@ -63,7 +63,7 @@ named-finals-spec =
     μ-loop
     loop-holds
     cast-t8
-    name-of-requires
+    of-requires
     wide-requires
     mul-codes
     element-copy-out-codes

@@ -30,7 +30,7 @@ enum-told c = search needs
 
 collapsed-requires : tie.Need-collapsed-requires
 collapsed-requires c κs =
-    (c .before .before .before .before .if1 .left, taken-readable (c .before .before .before .before .before .before .before .args .table .now) (λ i. c .before .before .before .before .before .before .shared-slice-known .given i .fits) _ (c .before .before .before .read .result .table) (taken (c .before)))
+    (c .before .before .before .before .before .before .if1 .left, taken-readable (c .before .before .before .before .before .before .before .before .before .args .table .now) (λ i. c .before .before .before .before .before .before .before .before .shared-slice-known .given i .fits) _ (c .before .before .before .before .before .read .result .table) (taken (c .before .before .before)), search needs, search needs)
 
 put-table-requires : tie.Need-put-table-requires
 put-table-requires c κs = readable-writable (c .before .collapsed .result) (c .before .collapsed .ensures .0)
@@ -46,9 +46,10 @@ same-length c = search needs
 
 returns-2 : tie.Need-returns-2
 returns-2 c =
-    let a = c .before .before .before .before .before .before .before .before .before .before .before .before .args in
-    put-done (a .direction) (a .table .now) (a .room .now) (λ i. c .before .before .before .before .before .before .before .before .before .before .before .shared-slice-known .given i .fits) _ (c .before .before .before .before .before .before .before .before .read .result .table) (taken (c .before .before .before .before .before .before)) (c .before .before .before .before .before .before .before .before .before .if1 .left)
-        (CollapsedByCoarsest (sideOf (a .direction))) (c .before .before .put-table .result) _ (tableOf (c .before .before .before .before .collapsed .result)) (c .before .before .before .before .collapsed .ensures .1) (c .before .before .put-table .ensures)
+    let a = c .before .before .before .before .before .before .before .before .before .before .before .before .before .before .args in
+    let k = c .before .before .before .before .collapsed in
+    put-done (a .direction) (a .table .now) (a .room .now) (λ i. c .before .before .before .before .before .before .before .before .before .before .before .before .before .shared-slice-known .given i .fits) _ (c .before .before .before .before .before .before .before .before .before .before .read .result .table) (taken (c .before .before .before .before .before .before .before .before)) (c .before .before .before .before .before .before .before .before .before .before .before .if1 .left)
+        (CollapsedByCoarsest (sideOf (a .direction))) (c .before .before .put-table .result) _ (tableOf (k .result)) (k .ensures .1) (c .before .before .put-table .ensures)
 
 returns-3 : tie.Need-returns-3
 returns-3 c =

@@ -8,7 +8,8 @@ use Rattle.numbers.specs.Written.{written, writtenAll}
 use Rattle.format.specs.Written.{transitionsNumbers, bytesOf}
 use Rattle.tables.specs.Record.{rowsFrom, tableOf}
 use Rattle.tables.specs.Steps.{Long}
-use Rattle.writer.proofs.Fields.{columnsOf, few-states, few-symbols, few-transitions, row-inside, form-length, form-short}
+use Rattle.writer.proofs.Fields.{few-states, few-symbols, few-transitions, row-inside, form-length, form-short}
+use Rattle.tables.specs.Rows.{columnsOf}
 use borrow.Author.Needs.{needs}
 use Rattle.writer.proofs.length_of.Statement.{statement}
 use Rattle.writer.proofs.length_of.Tie as tie

@@ -10,7 +10,8 @@ use Rattle.format.specs.Written.{transitionsNumbers, bytesOf}
 use Rattle.tables.specs.Record.{rowsFrom, tableOf}
 use Rattle.tables.specs.Steps.{Long}
 use Rattle.writer.specs.Put.{Put}
-use Rattle.writer.proofs.Fields.{columnsOf, few-states, few-symbols, few-transitions, count-is, row-inside}
+use Rattle.writer.proofs.Fields.{few-states, few-symbols, few-transitions, count-is, row-inside}
+use Rattle.tables.specs.Rows.{columnsOf}
 use Rattle.writer.proofs.Pieces.{table-pieces}
 use Rattle.writer.proofs.Putting.{Putting, putting-starts, putting-goes-on, putting-fits, putting-ends}
 use Rattle.writer.proofs.write.Statement.{statement}

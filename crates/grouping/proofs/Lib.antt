@@ -1,0 +1,4 @@
+pub mod Filling
+pub mod Grouping
+pub mod Profiling
+pub mod Regions

@@ -1,0 +1,92 @@
+-- `partition::numbering::start` meets its contract. The invariant is the promise itself, for the states below q. Assumes nothing.
+use Prim.Native.Nat.{_-_, _≤_, _<_}
+use mathlib.Core.Logic.{⊎-elim}
+use mathlib.Core.Path.{_≡_}
+use native.Mathlib.Omega.{arith}
+use borrow.Author.Needs.{needs}
+use Rattle.theory.specs.Direction.{direction as sideOf}
+use Rattle.partition.specs.Numbering.{Started}
+use Rattle.partition.proofs.Starting.{starting-starts, starting-shares, starting-new}
+use Rattle.partition.proofs.numbering.start.Statement.{statement}
+use Rattle.partition.proofs.numbering.start.Tie as tie
+
+abbrev Inv-loop : tie.InvT-loop
+Inv-loop direction states finals blocks₀ number₀ q₀ blocks number q =
+    (q ≤ states) × (number ≤ q) × Started (sideOf direction) q finals (blocks .list) number
+
+abbrev μ-loop : tie.MeasureT-loop
+μ-loop direction states finals blocks₀ number₀ q₀ blocks number q = states - q
+
+new-requires : tie.Need-new-requires Inv-loop μ-loop
+new-requires c κs = search needs
+
+loop-holds : tie.Need-loop-holds Inv-loop μ-loop
+loop-holds c = (omega arith, omega arith, starting-starts (sideOf (c .before .args .direction)) (c .before .args .finals .now) (c .new .result .list) (search needs))
+
+cast-t10 : tie.Need-cast-t10 Inv-loop μ-loop
+cast-t10 c = search needs
+
+first-alike-requires : tie.Need-first-alike-requires Inv-loop μ-loop
+first-alike-requires c κs = search needs
+
+cast-t12 : tie.Need-cast-t12 Inv-loop μ-loop
+cast-t12 c = search needs
+
+of-requires : tie.Need-of-requires Inv-loop μ-loop
+of-requires c κs = search needs
+
+with-requires : tie.Need-with-requires Inv-loop μ-loop
+with-requires c κs = search needs
+
+cast-t14 : tie.Need-cast-t14 Inv-loop μ-loop
+cast-t14 c = search needs
+
+with-requires-2 : tie.Need-with-requires-2 Inv-loop μ-loop
+with-requires-2 c κs = search needs
+
+add-number : tie.Need-add-number Inv-loop μ-loop
+add-number c = search needs
+
+add-q : tie.Need-add-q Inv-loop μ-loop
+add-q c = search needs
+
+loop-less : tie.Need-loop-less Inv-loop μ-loop
+loop-less c = search needs
+
+loop-again : tie.Need-loop-again Inv-loop μ-loop
+loop-again c =
+    let a = c .before .before .before .before .before .args in
+    let l = c .before .before .before .loop in
+    let more = c .before .before .loop-test .taken in
+    let inside : l .q < 256 = omega (arith, c .before .before .before .before .before .pre .0) in
+    ⊎-elim
+    (λ w. (omega arith, rw (w .4) (omega (arith, l .inv .1)), rw (w .3, w .4, w .2 .ensures, w .1 .ensures) (starting-shares (sideOf (a .direction)) (a .finals .now) (l .q) (l .number) (l .blocks .list) (l .inv .2) inside (c .before .first-alike .result) (c .before .first-alike .ensures) (w .0 .taken))))
+    (λ w. (omega arith, rw (w .3) (omega (arith, l .inv .1)), rw (w .2, w .3, w .1 .ensures) (starting-new (sideOf (a .direction)) (a .finals .now) (l .q) (l .number) (l .blocks .list) (l .inv .2) inside (c .before .first-alike .result) (c .before .first-alike .ensures) (w .0 .left))))
+    (c .if1 .came)
+
+returns : tie.Need-returns Inv-loop μ-loop
+returns c =
+    let l = c .before .loop in
+    let done : l .q ≡ c .before .before .before .args .states = omega (arith, c .loop-test .left) in
+    rw done at (l .inv .2)
+
+pub start-spec : {M : Type 1} → statement M
+start-spec =
+    tie.close
+    (tie.spec
+    Inv-loop
+    μ-loop
+    new-requires
+    loop-holds
+    cast-t10
+    first-alike-requires
+    cast-t12
+    of-requires
+    with-requires
+    cast-t14
+    with-requires-2
+    add-number
+    add-q
+    loop-less
+    loop-again
+    returns)
