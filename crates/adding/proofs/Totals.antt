@@ -1,4 +1,4 @@
--- The loops that give each block its final code: backward by adding up, forward from the named member.
+-- The loop that adds up the final code of each block.
 use Prim.Native.Nat.{ℕ, suc, _+_, _-_, _≤_, _<_}
 use mathlib.Core.Path.{_≡_, sym, ap, _∙_}
 use mathlib.Core.Bool.{Bool}
@@ -7,7 +7,6 @@ use native.Mathlib.Omega.{arith}
 use native.Mathlib.Nat.{sub-zero}
 use native.Mathlib.Decide.{ℕ-discrete}
 use native.Mathlib.Numerals.{add-one}
-use borrow.Author.Count.{below-more}
 use borrow.Author.Tests.{eq-eqb, ne-eqb}
 use lib.Dec.{eqb}
 use lib.ListN.{length, getD, set, replicate, length-set, length-replicate, getD-replicate}
@@ -79,23 +78,3 @@ module _ (a n : ℕ) (finals : List ℕ) (b : ℕ → ℕ) where
     totalling-ends done D l =
         let none : n - q ≡ 0 = omega arith in
         so-far .own D l ∙ ap (codeOf a) (sym (S .plus-zero _) ∙ ap (λ (k : ℕ). S .plus (meaning a (getD sums D 0)) (sum S (upFrom q k) (share D))) (sym none) ∙ so-far .rest D l)
-
--- the codes of the blocks below D are chosen
-pub record Choosing (f : ℕ → ℕ) (number : ℕ) (codes : List ℕ) (D : ℕ) : Type 0 where
-  pub some : D ≤ number
-  pub long : length codes ≡ 256
-  pub chosen : (C : ℕ) → C < D → getD codes C 0 ≡ f C
-
-module _ (f : ℕ → ℕ) (number : ℕ) where
-  pub choosing-starts : Choosing f number (replicate 256 0) 0
-  choosing-starts = record { some = omega arith; long = length-replicate {A = ℕ} 256 0; chosen = λ C l. absurd (omega arith) }
-
-  pub choosing-goes-on : (codes : List ℕ) (D : ℕ) → Choosing f number codes D → D < number → number ≤ 256 → (x : ℕ) → x ≡ f D → Choosing f number (set codes D x) (D + 1)
-  choosing-goes-on codes D so-far more few x e = record {
-    some = omega arith;
-    long = length-set codes D x ∙ so-far .long;
-    chosen = below-more _ D (λ C l. getD-set-other codes D C x 0 (λ d. omega arith) ∙ so-far .chosen C l) (getD-set-same codes D x 0 (omega (arith, so-far .long)) ∙ e);
-  }
-
-  pub choosing-ends : (codes : List ℕ) (D : ℕ) → Choosing f number codes D → number ≤ D → (length codes ≡ 256) × ((C : ℕ) → C < number → getD codes C 0 ≡ f C)
-  choosing-ends codes D so-far done = (so-far .long, λ C l. so-far .chosen C (omega arith))

@@ -1,9 +1,13 @@
 -- Keys as numbers: the symbol and the blocks of a transition, packed into one.
-use Prim.Native.Nat.{ℕ, zero, suc, _+_, _*_, _/_, _%_}
+use Prim.Native.Nat.{ℕ, zero, suc, _+_, _*_, _/_, _%_, _<_}
 use mathlib.Core.List.{List, [], _∷_, _++_}
 use lib.ListN.{getD}
 use Rattle.model.specs.Table.{Transition}
 use Rattle.profiles.specs.Entries.{Entry}
+
+-- the numbers of a list of 256 have eight bits
+abbrev pub Bytes : List ℕ → Type 0
+Bytes ns = (i : ℕ) → i < 256 → getD ns i 0 < 256
 
 -- the numbers xs behind n, eight bits each
 abbrev pub packed : ℕ → List ℕ → ℕ

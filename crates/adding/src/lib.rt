@@ -1,16 +1,16 @@
 // A table collapsed by given blocks. One named member stands for each block; the transitions between named members are added up by
 // the keys of their blocks.
 
-use lists::BlockList;
-use lists::NameList;
+use partition::BlockList;
+use partition::NameList;
 use profiles::SYMBOL;
 use states::Block;
 use states::State;
 use tables::TableRecord;
 ghost use mathlib.Core.Path.{_≡_};
 ghost use Prim.Native.Nat.{ℕ, _+_, _*_, _≤_, _<_};
+ghost use mathlib.Core.Bool.{false};
 ghost use mathlib.Core.List.{[]};
-ghost use lib.Dec.{eqb};
 ghost use lib.ListN.{length, getD};
 ghost use Rattle.theory.specs.Arithmetic.{codeOf};
 ghost use Rattle.theory.specs.Blocks.{blockOf};
@@ -19,8 +19,8 @@ ghost use Rattle.theory.specs.Entry.{blockKey};
 ghost use Rattle.tables.specs.Record.{columns, rowAt, rowsFrom, tableOf};
 ghost use Rattle.tables.specs.Steps.{Long};
 ghost use Rattle.profiles.specs.Entries.{entries};
-ghost use Rattle.adding.specs.Keys.{pack, transitionOf};
-ghost use Rattle.adding.specs.Named.{nameOf, Greatest, allNamed, counted};
+ghost use Rattle.adding.specs.Keys.{Bytes, pack, transitionOf};
+ghost use Rattle.adding.specs.Named.{nameOf, Greatest, NamedBy, allNamed, counted};
 ghost use Rattle.adding.specs.Finals.{finalsAdded, finalFor};
 ghost use Rattle.adding.specs.Rows.{Row, Rows, gathered, Gathered, KeyKnown, DigitsPut, RowPut, Unpacked, tableWith};
 ghost use Rattle.adding.specs.Collapsing.{Collapsible, CollapsedTo};
@@ -186,13 +186,20 @@ fn named_finals(number: usize, finals: &[u32; 256], names: NameList) -> [u32; 25
     codes
 }
 
-// Whether a state is the named member of its block.
-fn is_named(q: State, blocks: BlockList, names: NameList) -> bool
-    ensures { λ r. ⌜ r ≡ eqb (nameOf (names .list) (blockOf (blocks .list) (q .0))) (q .0) ⌝ }
+fn is_named(q: State, named: &[bool; 256]) -> bool
+    requires { ⌜ length (now named) ≡ 256 ⌝ }
+    ensures { λ r. ⌜ (q .0 < 256) × (r ≡ getD (now (named .entry)) (q .0) false) ⌝ }
 {
-    let block = blocks.of(q);
-    let named = names.of(block);
-    named.0 == q.0
+    let i = wide(q.0);
+    named[i]
+}
+
+fn digit_of(q: State, digits: &[u64; 256]) -> u64
+    requires { ⌜ length (now digits) ≡ 256 ⌝ }
+    ensures { λ r. ⌜ (q .0 < 256) × (r ≡ blockOf (now (digits .entry)) (q .0)) ⌝ }
+{
+    let i = wide(q.0);
+    digits[i]
 }
 
 // Whether the children of transition j are all named.
@@ -201,18 +208,17 @@ fn children_named<'a>(
     ranks: &'a [u8; 128],
     symbol: &'a [u8; 4000],
     children: &'a [u8; 16000],
-    blocks: BlockList,
-    names: NameList,
+    named: &[bool; 256],
 ) -> bool
-    requires { ⌜ (length (now ranks) ≡ 128) × (length (now symbol) ≡ 4000) × (length (now children) ≡ 16000) × Row (now ranks) (now symbol) j ⌝ }
-    ensures { λ r. ⌜ r ≡ allNamed (blockOf (blocks .list)) (nameOf (names .list)) (rowAt (columns (now (ranks .entry)) (now (symbol .entry)) (now (children .entry)) [] []) j .children) ⌝ }
+    requires { ⌜ (length (now ranks) ≡ 128) × (length (now symbol) ≡ 4000) × (length (now children) ≡ 16000) × (length (now named) ≡ 256) × Row (now ranks) (now symbol) j ⌝ }
+    ensures { λ r. ⌜ ((b n : ℕ → ℕ) → NamedBy b n (now (named .entry)) → r ≡ allNamed b n (rowAt (columns (now (ranks .entry)) (now (symbol .entry)) (now (children .entry)) [] []) j .children)) ⌝ }
 {
     let own = wide(symbol[j]);
     let rank = wide(ranks[own]);
     let mut k = 0;
     while k < rank {
         let child = State(children[j * 4 + k]);
-        if !is_named(child, blocks, names) {
+        if !is_named(child, named) {
             return false;
         }
         k += 1;
@@ -228,16 +234,15 @@ fn counts<'a>(
     symbol: &'a [u8; 4000],
     children: &'a [u8; 16000],
     target: &'a [u8; 4000],
-    blocks: BlockList,
-    names: NameList,
+    named: &[bool; 256],
 ) -> bool
-    requires { ⌜ (length (now ranks) ≡ 128) × (length (now symbol) ≡ 4000) × (length (now children) ≡ 16000) × (length (now target) ≡ 4000) × Row (now ranks) (now symbol) j ⌝ }
-    ensures { λ r. ⌜ r ≡ counted (blockOf (blocks .list)) (nameOf (names .list)) (sideOf direction) (rowAt (columns (now (ranks .entry)) (now (symbol .entry)) (now (children .entry)) (now (target .entry)) []) j) ⌝ }
+    requires { ⌜ (length (now ranks) ≡ 128) × (length (now symbol) ≡ 4000) × (length (now children) ≡ 16000) × (length (now target) ≡ 4000) × (length (now named) ≡ 256) × Row (now ranks) (now symbol) j ⌝ }
+    ensures { λ r. ⌜ ((b n : ℕ → ℕ) → NamedBy b n (now (named .entry)) → r ≡ counted b n (sideOf direction) (rowAt (columns (now (ranks .entry)) (now (symbol .entry)) (now (children .entry)) (now (target .entry)) []) j)) ⌝ }
 {
     if direction != 0 {
-        return children_named(j, ranks, symbol, children, blocks, names);
+        return children_named(j, ranks, symbol, children, named);
     }
-    is_named(State(target[j]), blocks, names)
+    is_named(State(target[j]), named)
 }
 
 // The key of transition j's blocks, as one number: the symbol, the children's blocks, the target's block.
@@ -247,22 +252,20 @@ fn key_of<'a>(
     symbol: &'a [u8; 4000],
     children: &'a [u8; 16000],
     target: &'a [u8; 4000],
-    blocks: BlockList,
+    digits: &[u64; 256],
 ) -> u64
-    requires { ⌜ (length (now ranks) ≡ 128) × (length (now symbol) ≡ 4000) × (length (now children) ≡ 16000) × (length (now target) ≡ 4000) × Row (now ranks) (now symbol) j ⌝ }
-    ensures { λ r. ⌜ r ≡ pack (blockKey (blockOf (blocks .list)) (rowAt (columns (now (ranks .entry)) (now (symbol .entry)) (now (children .entry)) (now (target .entry)) []) j)) ⌝ }
+    requires { ⌜ (length (now ranks) ≡ 128) × (length (now symbol) ≡ 4000) × (length (now children) ≡ 16000) × (length (now target) ≡ 4000) × (length (now digits) ≡ 256) × Bytes (now digits) × Row (now ranks) (now symbol) j ⌝ }
+    ensures { λ r. ⌜ r ≡ pack (blockKey (blockOf (now (digits .entry))) (rowAt (columns (now (ranks .entry)) (now (symbol .entry)) (now (children .entry)) (now (target .entry)) []) j)) ⌝ }
 {
     let own = symbol[j];
     let rank = wide(ranks[wide(own)]);
     let mut packed: u64 = 0;
     let mut k = 0;
     while k < rank {
-        let child = blocks.of(State(children[j * 4 + k]));
-        packed = packed * 256 + long(child.0);
+        packed = packed * 256 + digit_of(State(children[j * 4 + k]), digits);
         k += 1;
     }
-    let block = blocks.of(State(target[j]));
-    long(own) * SYMBOL + (packed * 256 + long(block.0))
+    long(own) * SYMBOL + (packed * 256 + digit_of(State(target[j]), digits))
 }
 
 // An entry for each transition that counts. Answers how many there are.
@@ -282,11 +285,13 @@ fn gather<'a>(
     requires { ⌜ Long (columns (now ranks) (now symbol) (now children) (now target) (now code)) × Rows (now ranks) (now symbol) count × (length (now keys) ≡ 16000) × (length (now codes) ≡ 16000) ⌝ }
     ensures { λ r. ⌜ Gathered (gathered (blockOf (blocks .list)) (nameOf (names .list)) (sideOf direction) (rowsFrom (columns (now (ranks .entry)) (now (symbol .entry)) (now (children .entry)) (now (target .entry)) (now (code .entry))) 0 count)) count (now (keys .exit)) (now (codes .exit)) r ⌝ }
 {
+    let named = names.named(blocks);
+    let digits = blocks.digits();
     let mut many = 0;
     let mut j = 0;
     while j < count {
-        if counts(direction, j, ranks, symbol, children, target, blocks, names) {
-            keys[many] = key_of(j, ranks, symbol, children, target, blocks);
+        if counts(direction, j, ranks, symbol, children, target, &named) {
+            keys[many] = key_of(j, ranks, symbol, children, target, &digits);
             codes[many] = code[j];
             many += 1;
         }

@@ -84,10 +84,10 @@ module _ (d : ℕ) (table before : List ℕ) where
     blocks-done list number answer room coarsest many p =
         let q = subst (λ (m : ℕ). (answer ≡ blocksAnswer (fits (take m list) before) m number) × (room ≡ filled (fits (take m list) before) (take m list) before)) (taken-states table bytes n r t) p in
         blocks-found answer room (tableOf r) (t .end) h (taken-found table bytes n r t) (record {
-            blocks = take (r .states) list;
-            coarsest = coarsest;
-            answer-is = q .0 ∙ ap (λ (k : ℕ). blocksAnswer (fits (take (r .states) list) before) (r .states) k) many;
-            room-is = q .1;
+          blocks = take (r .states) list;
+          coarsest = coarsest;
+          answer-is = q .0 ∙ ap (λ (k : ℕ). blocksAnswer (fits (take (r .states) list) before) (r .states) k) many;
+          room-is = q .1;
         })
 
 -- a record and its coarsest blocks
@@ -104,6 +104,7 @@ module _ (d : Direction) (r : TableRecord) (readable : Readable r) (list : List 
       }
 
   pub collapsed-to : (y : TableRecord) → CollapsedTo d r list y → Readable y × CollapsedByCoarsest d (tableOf r) (tableOf y)
-  collapsed-to y c =
-      (record { holds = c .holds; proper = c .proper },
-      record { blocks = take (r .states) list; coarsest-blocks = coarsest; collapsed = c .collapsed })
+  collapsed-to y c = (
+    record { holds = c .holds; proper = c .proper },
+    record { blocks = take (r .states) list; coarsest-blocks = coarsest; collapsed = c .collapsed },
+  )

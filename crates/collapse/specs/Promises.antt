@@ -74,9 +74,10 @@ ShrinksTo d table before c room = PutFrom (leb d 1) (tableRead table) (Shrinks (
 
 blocks-put-decided : (d : Direction) (X : Table) (before : List ℕ) (a b : Answer) (r s : List ℕ) → BlocksPut d X before a r → BlocksPut d X before b s → (a ≡ b) × (r ≡ s)
 blocks-put-decided d X before a b r s p q =
-    let same = coarsestBlocks-unique d X (p .blocks) (q .blocks) (p .coarsest) (q .coarsest) in
-    (p .answer-is ∙ ap (λ (l : List ℕ). blocksAnswer (fits l before) (X .states) (blockCount (blockOf l) (X .states))) same ∙ sym (q .answer-is),
-    p .room-is ∙ ap (λ (l : List ℕ). filled (fits l before) l before) same ∙ sym (q .room-is))
+    let same = coarsestBlocks-unique d X (p .blocks) (q .blocks) (p .coarsest) (q .coarsest) in (
+      p .answer-is ∙ ap (λ (l : List ℕ). blocksAnswer (fits l before) (X .states) (blockCount (blockOf l) (X .states))) same ∙ sym (q .answer-is),
+      p .room-is ∙ ap (λ (l : List ℕ). filled (fits l before) l before) same ∙ sym (q .room-is),
+    )
 
 pub blocks-decided : (d : ℕ) (table before : List ℕ) (a b : Answer) (r s : List ℕ) → Blocks d table before a r → Blocks d table before b s → (a ≡ b) × (r ≡ s)
 blocks-decided d table before a b r s = go (leb d 1) (tableRead table)
@@ -98,9 +99,10 @@ put-decided R single known table before bytes a b r s = go known (tableRead tabl
     go false x e p q = (p .0 ∙ sym (q .0), p .1 ∙ sym (q .1))
     go true (refused refusal) e p q = (p .0 ∙ sym (q .0), p .1 ∙ sym (q .1))
     go true (found X end) e p q =
-        let same = single X (p .table) (q .table) (table-sound table bytes X end e .0) (p .named) (q .named) in
-        (p .answer-is ∙ ap (λ (Y : Table). written (fits (bytesOf Y) before) Y) same ∙ sym (q .answer-is),
-        p .room-is ∙ ap (λ (Y : Table). filled (fits (bytesOf Y) before) (bytesOf Y) before) same ∙ sym (q .room-is))
+        let same = single X (p .table) (q .table) (table-sound table bytes X end e .0) (p .named) (q .named) in (
+          p .answer-is ∙ ap (λ (Y : Table). written (fits (bytesOf Y) before) Y) same ∙ sym (q .answer-is),
+          p .room-is ∙ ap (λ (Y : Table). filled (fits (bytesOf Y) before) (bytesOf Y) before) same ∙ sym (q .room-is),
+        )
 
 pub collapse-decided : (d : ℕ) (table before : List ℕ) → ((i : ℕ) → getD table i 0 < 256) → (a b : Counted) (r s : List ℕ)
     → Collapses d table before a r → Collapses d table before b s → (a ≡ b) × (r ≡ s)

@@ -66,9 +66,9 @@ module _ (d : ℕ) (from to : List ℕ) (c : Collapsing d from to) (X : Table) (
           let n : length to ≡ length (bytesOf (p .table)) = let g = ap (λ (g : Counted). g .answer) e in cc (g, c .done) in
           let front : take (length to) (c .room-after) ≡ bytesOf (p .table) = rw (n, f) (take-append-seam (bytesOf (p .table)) _) in
           record {
-              result = p .table;
-              reads = record { is = c .wrote ∙ front; proper = collapsedByCoarsest-proper (direction d) X (p .table) (p .named) (r .proper) };
-              collapsed = p .named
+            result = p .table;
+            reads = record { is = c .wrote ∙ front; proper = collapsedByCoarsest-proper (direction d) X (p .table) (p .named) (r .proper) };
+            collapsed = p .named;
           }
 
   wrote : Wrote

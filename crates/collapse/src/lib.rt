@@ -1,9 +1,9 @@
 // The calls that find blocks and shrink: blocks, collapse, shrink. No caller is trusted to have looked at a table before.
 
-use answers::{Answer, Refusal};
+use answers::Answer;
+use answers::Refusal;
 use partition::Partition;
 use tables::TableRecord;
-
 ghost use mathlib.Core.Path.{_≡_};
 ghost use Prim.Native.Nat.{ℕ, _≤_, _<_};
 ghost use lib.ListN.{length, take};
@@ -27,7 +27,11 @@ pub struct Counted {
 fn refuse(refusal: Refusal) -> Counted
     ensures { λ r. ⌜ r ≡ refusedBy refusal ⌝ }
 {
-    Counted { answer: Answer::Refused(refusal), states: 0, transitions: 0 }
+    Counted {
+        answer: Answer::Refused(refusal),
+        states: 0,
+        transitions: 0,
+    }
 }
 
 // A table's written form into the room. Since a refusal leaves the room alone, the length is asked first, unless the longest form fits.
@@ -131,13 +135,14 @@ fn shrunk(direction: u32, table: TableRecord) -> TableRecord
     let mut codes = [0u32; 16000];
     let mut side = direction;
     let mut present = table;
-    let mut next = collapsed(side, present, &mut keys, &mut codes);
-    while next.states < present.states {
+    // more than any table has
+    let mut states_before = 257;
+    while present.states < states_before {
+        states_before = present.states;
+        present = collapsed(side, present, &mut keys, &mut codes);
         side = 1 - side;
-        present = next;
-        next = collapsed(side, present, &mut keys, &mut codes);
     }
-    next
+    present
 }
 
 // A table shrunk from a side: done with the length written.

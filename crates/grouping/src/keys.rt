@@ -2,7 +2,6 @@
 
 use crate::wide;
 use crate::wide16;
-use lists::BlockList;
 use states::State;
 ghost use mathlib.Core.Path.{_≡_};
 ghost use Prim.Native.Nat.{ℕ, suc, _/_, _≤_, _<_};
@@ -32,19 +31,17 @@ fn key_into<'a>(
     ranks: &'a [u8; 128],
     symbol: &'a [u8; 4000],
     children: &'a [u8; 16000],
-    blocks: BlockList,
+    digits: &[u64; 256],
 ) -> u64
-    requires { ⌜ (length (now ranks) ≡ 128) × (length (now symbol) ≡ 4000) × (length (now children) ≡ 16000) × Row (now ranks) (now symbol) j ⌝ }
-    ensures { λ r. ⌜ r ≡ pack (keyIn backward (now (ranks .entry)) (now (symbol .entry)) (now (children .entry)) [] (blockOf (blocks .list)) j) ⌝ }
+    requires { ⌜ (length (now ranks) ≡ 128) × (length (now symbol) ≡ 4000) × (length (now children) ≡ 16000) × (length (now digits) ≡ 256) × ((q : ℕ) → getD (now digits) q 0 < 256) × Row (now ranks) (now symbol) j ⌝ }
+    ensures { λ r. ⌜ r ≡ pack (keyIn backward (now (ranks .entry)) (now (symbol .entry)) (now (children .entry)) [] (blockOf (now (digits .entry))) j) ⌝ }
 {
     let own = symbol[j];
     let rank = wide(ranks[wide(own)]);
     let mut packed: u64 = 0;
     let mut k = 0;
     while k < rank {
-        let child = State(children[j * 4 + k]);
-        let block = blocks.of(child);
-        packed = packed * 256 + long(block.0);
+        packed = packed * 256 + digits[wide(children[j * 4 + k])];
         k += 1;
     }
     long(own) * SYMBOL + packed
@@ -57,10 +54,10 @@ fn key_at<'a>(
     symbol: &'a [u8; 4000],
     children: &'a [u8; 16000],
     target: &'a [u8; 4000],
-    blocks: BlockList,
+    digits: &[u64; 256],
 ) -> u64
-    requires { ⌜ Long (now ranks) (now symbol) (now children) (now target) × Row (now ranks) (now symbol) (u / 4) ⌝ }
-    ensures { λ r. ⌜ r ≡ pack (keyIn forward (now (ranks .entry)) (now (symbol .entry)) (now (children .entry)) (now (target .entry)) (blockOf (blocks .list)) u) ⌝ }
+    requires { ⌜ Long (now ranks) (now symbol) (now children) (now target) × (length (now digits) ≡ 256) × ((q : ℕ) → getD (now digits) q 0 < 256) × Row (now ranks) (now symbol) (u / 4) ⌝ }
+    ensures { λ r. ⌜ r ≡ pack (keyIn forward (now (ranks .entry)) (now (symbol .entry)) (now (children .entry)) (now (target .entry)) (blockOf (now (digits .entry))) u) ⌝ }
 {
     let j = u / 4;
     let place = u % 4;
@@ -74,9 +71,7 @@ fn key_at<'a>(
         }
         k += 1;
     }
-    let into = State(target[j]);
-    let block = blocks.of(into);
-    long(own) * SYMBOL + (packed * 256 + long(block.0))
+    long(own) * SYMBOL + (packed * 256 + digits[wide(target[j])])
 }
 
 fn key_of<'a>(
@@ -86,15 +81,15 @@ fn key_of<'a>(
     symbol: &'a [u8; 4000],
     children: &'a [u8; 16000],
     target: &'a [u8; 4000],
-    blocks: BlockList,
+    digits: &[u64; 256],
 ) -> u64
-    requires { ⌜ Long (now ranks) (now symbol) (now children) (now target) × Row (now ranks) (now symbol) (rowOf (sideOf direction) u) ⌝ }
-    ensures { λ r. ⌜ r ≡ pack (keyIn (sideOf direction) (now (ranks .entry)) (now (symbol .entry)) (now (children .entry)) (now (target .entry)) (blockOf (blocks .list)) u) ⌝ }
+    requires { ⌜ Long (now ranks) (now symbol) (now children) (now target) × (length (now digits) ≡ 256) × ((q : ℕ) → getD (now digits) q 0 < 256) × Row (now ranks) (now symbol) (rowOf (sideOf direction) u) ⌝ }
+    ensures { λ r. ⌜ r ≡ pack (keyIn (sideOf direction) (now (ranks .entry)) (now (symbol .entry)) (now (children .entry)) (now (target .entry)) (blockOf (now (digits .entry))) u) ⌝ }
 {
     if direction == 0 {
-        return key_into(u, ranks, symbol, children, blocks);
+        return key_into(u, ranks, symbol, children, digits);
     }
-    key_at(u, ranks, symbol, children, target, blocks)
+    key_at(u, ranks, symbol, children, target, digits)
 }
 
 // The transition that a use is of.
@@ -118,17 +113,17 @@ fn fill<'a>(
     target: &'a [u8; 4000],
     code: &'a [u32; 4000],
     list: &'a [u16; 16000],
-    blocks: BlockList,
+    digits: &[u64; 256],
     keys: &mut [u64; 16000],
     codes: &mut [u32; 16000],
 )
-    requires { ⌜ Long (now ranks) (now symbol) (now children) (now target) × (length (now code) ≡ 4000) × (length (now list) ≡ 16000) × Region lo hi (now keys) (now codes) × ((i : ℕ) → lo ≤ i → i < hi → Row (now ranks) (now symbol) (rowOf (sideOf direction) (getD (now list) i 0))) ⌝ }
-    ensures { λ _. ⌜ Filled lo hi (map (entryOf (sideOf direction) (now (ranks .entry)) (now (symbol .entry)) (now (children .entry)) (now (target .entry)) (now (code .entry)) (blockOf (blocks .list))) (slice lo hi (now (list .entry)))) (now (keys .entry)) (now (codes .entry)) (now (keys .exit)) (now (codes .exit)) ⌝ }
+    requires { ⌜ Long (now ranks) (now symbol) (now children) (now target) × (length (now digits) ≡ 256) × ((q : ℕ) → getD (now digits) q 0 < 256) × (length (now code) ≡ 4000) × (length (now list) ≡ 16000) × Region lo hi (now keys) (now codes) × ((i : ℕ) → lo ≤ i → i < hi → Row (now ranks) (now symbol) (rowOf (sideOf direction) (getD (now list) i 0))) ⌝ }
+    ensures { λ _. ⌜ Filled lo hi (map (entryOf (sideOf direction) (now (ranks .entry)) (now (symbol .entry)) (now (children .entry)) (now (target .entry)) (now (code .entry)) (blockOf (now (digits .entry)))) (slice lo hi (now (list .entry)))) (now (keys .entry)) (now (codes .entry)) (now (keys .exit)) (now (codes .exit)) ⌝ }
 {
     let mut i = lo;
     while i < hi {
         let u = wide16(list[i]);
-        keys[i] = key_of(direction, u, ranks, symbol, children, target, blocks);
+        keys[i] = key_of(direction, u, ranks, symbol, children, target, digits);
         codes[i] = code[row_of(direction, u)];
         i += 1;
     }
@@ -146,12 +141,12 @@ fn sum_up_one<'a>(
     code: &'a [u32; 4000],
     starts: &'a [u16; 257],
     list: &'a [u16; 16000],
-    blocks: BlockList,
+    digits: &[u64; 256],
     keys: &mut [u64; 16000],
     codes: &mut [u32; 16000],
 ) -> usize
-    requires { ⌜ Long (now ranks) (now symbol) (now children) (now target) × (length (now code) ≡ 4000) × ListedUses (sideOf direction) (now ranks) (now symbol) (now starts) (now list) × (length (now keys) ≡ 16000) × (length (now codes) ≡ 16000) ⌝ }
-    ensures { λ end. ⌜ Profiled arithmetic (start (now (starts .entry)) (p .0)) (start (now (starts .entry)) (suc (p .0))) end (map (entryOf (sideOf direction) (now (ranks .entry)) (now (symbol .entry)) (now (children .entry)) (now (target .entry)) (now (code .entry)) (blockOf (blocks .list))) (listed (now (starts .entry)) (now (list .entry)) (p .0))) (now (keys .exit)) (now (codes .exit)) ⌝ }
+    requires { ⌜ Long (now ranks) (now symbol) (now children) (now target) × (length (now digits) ≡ 256) × ((q : ℕ) → getD (now digits) q 0 < 256) × (length (now code) ≡ 4000) × ListedUses (sideOf direction) (now ranks) (now symbol) (now starts) (now list) × (length (now keys) ≡ 16000) × (length (now codes) ≡ 16000) ⌝ }
+    ensures { λ end. ⌜ Profiled arithmetic (start (now (starts .entry)) (p .0)) (start (now (starts .entry)) (suc (p .0))) end (map (entryOf (sideOf direction) (now (ranks .entry)) (now (symbol .entry)) (now (children .entry)) (now (target .entry)) (now (code .entry)) (blockOf (now (digits .entry)))) (listed (now (starts .entry)) (now (list .entry)) (p .0))) (now (keys .exit)) (now (codes .exit)) ⌝ }
     ensures { λ _. ⌜ Kept (start (now (starts .entry)) (p .0)) (start (now (starts .entry)) (suc (p .0))) (now (keys .entry)) (now (keys .exit)) × Kept (start (now (starts .entry)) (p .0)) (start (now (starts .entry)) (suc (p .0))) (now (codes .entry)) (now (codes .exit)) ⌝ }
 {
     let at = wide(p.0);
@@ -167,7 +162,7 @@ fn sum_up_one<'a>(
         target,
         code,
         list,
-        blocks,
+        digits,
         keys,
         codes,
     );
@@ -187,13 +182,13 @@ pub fn sum_up_members<'a>(
     code: &'a [u32; 4000],
     starts: &'a [u16; 257],
     list: &'a [u16; 16000],
-    blocks: BlockList,
+    digits: &[u64; 256],
     ends: &mut [u16; 256],
     keys: &mut [u64; 16000],
     codes: &mut [u32; 16000],
 )
-    requires { ⌜ Long (now ranks) (now symbol) (now children) (now target) × (length (now code) ≡ 4000) × ListedUses (sideOf direction) (now ranks) (now symbol) (now starts) (now list) × (length (now keys) ≡ 16000) × (length (now codes) ≡ 16000) × (length (now found) ≡ 256) × (length (now ends) ≡ 256) × (many ≤ 256) ⌝ }
-    ensures { λ _. ⌜ (length (now (keys .exit)) ≡ 16000) × (length (now (codes .exit)) ≡ 16000) × (length (now (ends .exit)) ≡ 256) × ((i : ℕ) → i < many → getD (now (found .entry)) i 0 < 256) × AllProfiled (entryOf (sideOf direction) (now (ranks .entry)) (now (symbol .entry)) (now (children .entry)) (now (target .entry)) (now (code .entry)) (blockOf (blocks .list))) arithmetic many (now (found .entry)) (now (starts .entry)) (now (list .entry)) (now (ends .exit)) (now (keys .exit)) (now (codes .exit)) ⌝ }
+    requires { ⌜ Long (now ranks) (now symbol) (now children) (now target) × (length (now digits) ≡ 256) × ((q : ℕ) → getD (now digits) q 0 < 256) × (length (now code) ≡ 4000) × ListedUses (sideOf direction) (now ranks) (now symbol) (now starts) (now list) × (length (now keys) ≡ 16000) × (length (now codes) ≡ 16000) × (length (now found) ≡ 256) × (length (now ends) ≡ 256) × (many ≤ 256) ⌝ }
+    ensures { λ _. ⌜ (length (now (keys .exit)) ≡ 16000) × (length (now (codes .exit)) ≡ 16000) × (length (now (ends .exit)) ≡ 256) × ((i : ℕ) → i < many → getD (now (found .entry)) i 0 < 256) × AllProfiled (entryOf (sideOf direction) (now (ranks .entry)) (now (symbol .entry)) (now (children .entry)) (now (target .entry)) (now (code .entry)) (blockOf (now (digits .entry)))) arithmetic many (now (found .entry)) (now (starts .entry)) (now (list .entry)) (now (ends .exit)) (now (keys .exit)) (now (codes .exit)) ⌝ }
 {
     let mut i = 0;
     while i < many {
@@ -210,7 +205,7 @@ pub fn sum_up_members<'a>(
             code,
             starts,
             list,
-            blocks,
+            digits,
             keys,
             codes,
         );

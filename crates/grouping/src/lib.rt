@@ -3,7 +3,7 @@
 mod comparing;
 mod keys;
 
-use lists::BlockList;
+use partition::BlockList;
 ghost use mathlib.Core.Path.{_≡_};
 ghost use mathlib.Core.List.{map};
 ghost use Prim.Native.Nat.{_≤_, _<_};
@@ -42,6 +42,7 @@ pub fn group<'a>(
         part[0] = 0;
         return 1;
     }
+    let digits = blocks.digits();
     let mut ends = [0u16; 256];
     keys::sum_up_members(
         direction,
@@ -55,7 +56,7 @@ pub fn group<'a>(
         code,
         starts,
         list,
-        blocks,
+        &digits,
         &mut ends,
         keys,
         codes,

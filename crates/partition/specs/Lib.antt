@@ -1,3 +1,4 @@
+pub mod Filling
 pub mod Members
 pub mod Numbering
 pub mod Parts

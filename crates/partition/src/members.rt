@@ -1,7 +1,7 @@
 // The members of a block that a step looks at: the dirty ones, and one clean one, which stands for all clean ones.
 
+use crate::BlockList;
 use crate::wide;
-use lists::BlockList;
 use states::Block;
 use states::State;
 ghost use mathlib.Core.Path.{_≡_};
@@ -42,9 +42,10 @@ pub fn gather(
     requires { ⌜ (states ≤ 256) × (first .0 < states) × ((q : ℕ) → q < first .0 → flag (now dirty) q ≡ false) × (length (now dirty) ≡ 256) × (length (now found) ≡ 256) ⌝ }
     ensures { λ r. ⌜ Members (getD (blocks .list) (first .0) 0) states (blocks .list) (now (dirty .entry)) (now (found .exit)) (r .count) (r .clean) × (length (now (found .exit)) ≡ 256) ⌝ }
 {
-    let block = blocks.of(first);
-    let count = gather_dirty(block, first, states, blocks, dirty, found);
-    let p = near_clean(block, first, states, blocks, dirty);
+    let list = blocks.list;
+    let block = Block(list[wide(first.0)]);
+    let count = gather_dirty(block, first, states, &list, dirty, found);
+    let p = near_clean(block, first, states, &list, dirty);
     if p == states {
         return Gathered { count, clean: 256 };
     }
@@ -60,21 +61,20 @@ fn gather_dirty(
     block: Block,
     first: State,
     states: usize,
-    blocks: BlockList,
+    list: &[u8; 256],
     dirty: &[bool; 256],
     found: &mut [u8; 256],
 ) -> usize
-    requires { ⌜ (states ≤ 256) × (first .0 < states) × ((q : ℕ) → q < first .0 → flag (now dirty) q ≡ false) × (length (now dirty) ≡ 256) × (length (now found) ≡ 256) ⌝ }
-    ensures { λ r. ⌜ DirtyMembers (block .0) states (blocks .list) (now (dirty .entry)) (now (found .exit)) r × (length (now (found .exit)) ≡ 256) ⌝ }
+    requires { ⌜ (states ≤ 256) × (first .0 < states) × ((q : ℕ) → q < first .0 → flag (now dirty) q ≡ false) × (length (now list) ≡ 256) × (length (now dirty) ≡ 256) × (length (now found) ≡ 256) ⌝ }
+    ensures { λ r. ⌜ DirtyMembers (block .0) states (now (list .entry)) (now (dirty .entry)) (now (found .exit)) r × (length (now (found .exit)) ≡ 256) ⌝ }
 {
-    let mut left = count_dirty(states, dirty);
-    let mut count = 0;
     let mut q = wide(first.0);
+    let mut left = count_dirty(q, states, dirty);
+    let mut count = 0;
     while 0 < left {
         if dirty[q] {
             left -= 1;
-            let own = blocks.of(State(q as u8));
-            if own.0 == block.0 {
+            if list[q] == block.0 {
                 found[count] = q as u8;
                 count += 1;
             }
@@ -84,13 +84,13 @@ fn gather_dirty(
     count
 }
 
-// How many states are dirty.
-fn count_dirty(states: usize, dirty: &[bool; 256]) -> usize
-    requires { ⌜ (states ≤ 256) × (length (now dirty) ≡ 256) ⌝ }
+// How many states are dirty; none is below `first`.
+fn count_dirty(first: usize, states: usize, dirty: &[bool; 256]) -> usize
+    requires { ⌜ (states ≤ 256) × (first ≤ states) × ((q : ℕ) → q < first → flag (now dirty) q ≡ false) × (length (now dirty) ≡ 256) ⌝ }
     ensures { λ r. ⌜ r ≡ dirtyCount (now (dirty .entry)) states ⌝ }
 {
     let mut count = 0;
-    let mut q = 0;
+    let mut q = first;
     while q < states {
         if dirty[q] {
             count += 1;
@@ -105,20 +105,20 @@ fn near_clean(
     block: Block,
     first: State,
     states: usize,
-    blocks: BlockList,
+    list: &[u8; 256],
     dirty: &[bool; 256],
 ) -> usize
-    requires { ⌜ (states ≤ 256) × (first .0 < states) × (length (now dirty) ≡ 256) ⌝ }
-    ensures { λ r. ⌜ CleanMember (block .0) states (blocks .list) (now (dirty .entry)) r ⌝ }
+    requires { ⌜ (states ≤ 256) × (first .0 < states) × (length (now list) ≡ 256) × (length (now dirty) ≡ 256) ⌝ }
+    ensures { λ r. ⌜ CleanMember (block .0) states (now (list .entry)) (now (dirty .entry)) r ⌝ }
 {
     let middle = wide(first.0);
     let mut distance = 0;
     while distance < states {
-        if is_clean(middle + distance, block, states, blocks, dirty) {
+        if is_clean(middle + distance, block, states, list, dirty) {
             return middle + distance;
         }
         if distance <= middle {
-            if is_clean(middle - distance, block, states, blocks, dirty) {
+            if is_clean(middle - distance, block, states, list, dirty) {
                 return middle - distance;
             }
         }
@@ -128,9 +128,9 @@ fn near_clean(
 }
 
 // Whether q is a state, a member of the block, and clean.
-fn is_clean(q: usize, block: Block, states: usize, blocks: BlockList, dirty: &[bool; 256]) -> bool
-    requires { ⌜ (states ≤ 256) × (length (now dirty) ≡ 256) ⌝ }
-    ensures { λ r. ⌜ (r ≡ true → (q < states) × (getD (blocks .list) q 0 ≡ block .0) × (flag (now (dirty .entry)) q ≡ false)) × (q < states → getD (blocks .list) q 0 ≡ block .0 → flag (now (dirty .entry)) q ≡ false → r ≡ true) ⌝ }
+fn is_clean(q: usize, block: Block, states: usize, list: &[u8; 256], dirty: &[bool; 256]) -> bool
+    requires { ⌜ (states ≤ 256) × (length (now list) ≡ 256) × (length (now dirty) ≡ 256) ⌝ }
+    ensures { λ r. ⌜ (r ≡ true → (q < states) × (getD (now (list .entry)) q 0 ≡ block .0) × (flag (now (dirty .entry)) q ≡ false)) × (q < states → getD (now (list .entry)) q 0 ≡ block .0 → flag (now (dirty .entry)) q ≡ false → r ≡ true) ⌝ }
 {
     if states <= q {
         return false;
@@ -138,6 +138,5 @@ fn is_clean(q: usize, block: Block, states: usize, blocks: BlockList, dirty: &[b
     if dirty[q] {
         return false;
     }
-    let own = blocks.of(State(q as u8));
-    own.0 == block.0
+    list[q] == block.0
 }

@@ -1,10 +1,8 @@
 // The blocks to start from, and the numbers to end with.
 
+use crate::BlockList;
 use crate::Partition;
-use lists::BlockList;
-use lists::NameList;
-use states::Block;
-use states::State;
+use crate::wide;
 ghost use mathlib.Core.Path.{_≡_};
 ghost use Prim.Native.Nat.{_≤_, _<_};
 ghost use lib.ListN.{length};
@@ -16,20 +14,20 @@ pub fn start(direction: u32, states: usize, finals: &[u32; 256]) -> Partition
     requires { ⌜ (states ≤ 256) × (length (now finals) ≡ 256) ⌝ }
     ensures { λ r. ⌜ Started (sideOf direction) states (now (finals .entry)) (r .blocks .list) (r .number) ⌝ }
 {
-    let mut blocks = BlockList::new();
+    let mut list = [0u8; 256];
     let mut number = 0;
     let mut q = 0;
     while q < states {
-        let own = State(q as u8);
         let p = first_alike(direction, q, finals);
         if p < q {
-            blocks = blocks.with(own, blocks.of(State(p as u8)));
+            list[q] = list[p];
         } else {
-            blocks = blocks.with(own, Block(number as u8));
+            list[q] = number as u8;
             number += 1;
         }
         q += 1;
     }
+    let blocks = BlockList { list };
     Partition { blocks, number }
 }
 
@@ -56,23 +54,24 @@ pub fn by_first_use(states: usize, found: BlockList) -> Partition
     requires { ⌜ states ≤ 256 ⌝ }
     ensures { λ r. ⌜ FirstUsed states (found .list) (r .blocks .list) (r .number) ⌝ }
 {
-    let mut blocks = BlockList::new();
-    let mut names = NameList::new();
+    let before = found.list;
+    let mut list = [0u8; 256];
+    let mut names = [0u8; 256];
     let mut number = 0;
     let mut q = 0;
     while q < states {
-        let own = State(q as u8);
-        let block = found.of(own);
-        let first = names.of(block);
-        let same = found.of(first);
-        if crate::wide(first.0) < q && same.0 == block.0 {
-            blocks = blocks.with(own, blocks.of(first));
+        let block = wide(before[q]);
+        let first = wide(names[block]);
+        let same = wide(before[first]);
+        if first < q && same == block {
+            list[q] = list[first];
         } else {
-            names = names.with(block, own);
-            blocks = blocks.with(own, Block(number as u8));
+            names[block] = q as u8;
+            list[q] = number as u8;
             number += 1;
         }
         q += 1;
     }
+    let blocks = BlockList { list };
     Partition { blocks, number }
 }

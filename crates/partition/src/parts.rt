@@ -1,9 +1,8 @@
 // New numbers for the parts of a block: one part keeps the block's number, the others get fresh ones.
 
+use crate::BlockList;
 use crate::wide;
-use lists::BlockList;
 use states::Block;
-use states::State;
 ghost use mathlib.Core.Path.{_≡_};
 ghost use Prim.Native.Nat.{ℕ, _+_, _≤_, _<_};
 ghost use lib.ListN.{length, getD};
@@ -67,14 +66,14 @@ pub fn renumber(
     requires { ⌜ (many ≤ 256) × (length (now found) ≡ 256) × (length (now part) ≡ 256) × (length (now dirty) ≡ 256) × ((i : ℕ) → i < many → Fits keeper total (getD (now part) i 0)) × ((i k : ℕ) → i < many → k < many → getD (now found) i 0 ≡ getD (now found) k 0 → getD (now part) i 0 ≡ getD (now part) k 0) ⌝ }
     ensures { λ r. ⌜ Renumbered many (block .0) total keeper (now (found .entry)) (now (part .entry)) (before .list) (now (dirty .entry)) (r .list) (now (dirty .exit)) ⌝ }
 {
-    let mut blocks = before;
+    let mut list = before.list;
     let mut i = 0;
     while i < many {
-        let p = found[i];
+        let p = wide(found[i]);
         let own = number_of(wide(part[i]), keeper, block, total);
-        blocks = blocks.with(State(p), own);
-        dirty[wide(p)] = false;
+        list[p] = own.0;
+        dirty[p] = false;
         i += 1;
     }
-    blocks
+    BlockList { list }
 }

@@ -29,7 +29,12 @@ pub extern "C" fn peristhox_rewrite(table: &[u8], room: &mut [u8]) -> u64
 // The weight of a tree at each state for each node, into the sheet: done with the number of nodes, and only then the tree's weight
 // is written.
 #[no_mangle]
-pub extern "C" fn peristhox_weigh(table: &[u8], tree: &[u8], sheet: &mut [i64], weight: &mut i64) -> u64
+pub extern "C" fn peristhox_weigh(
+    table: &[u8],
+    tree: &[u8],
+    sheet: &mut [i64],
+    weight: &mut i64,
+) -> u64
     ensures { λ r. ⌜ (r ≡ packed (answered (asked (now (table .entry)) (now (tree .entry)) (length (now (sheet .entry)))) .answer))
         × (now (sheet .exit) ≡ filled (asked (now (table .entry)) (now (tree .entry)) (length (now (sheet .entry)))) (now (sheet .entry)))
         × (now (weight .exit) ≡ weightAfter (asked (now (table .entry)) (now (tree .entry)) (length (now (sheet .entry)))) (now (weight .entry))) ⌝ }

@@ -46,7 +46,7 @@ returns-2 c =
     let a = c .before .before .before .before .before .before .before .before .before .before .before .before .before .before .before .args in
     let k = c .before .before .before .before .coarsest in
     blocks-done (a .direction) (a .table .now) (a .room .now) (λ i. c .before .before .before .before .before .before .before .before .before .before .before .before .before .before .shared-slice-known .given i .fits) _ (c .before .before .before .before .before .before .before .before .before .before .before .read .result .table) (taken (c .before .before .before .before .before .before .before .before .before)) (c .before .before .before .before .before .before .before .before .before .before .before .before .if1 .left)
-        (k .result .blocks .list) (k .result .number) (c .before .before .put-blocks .result) _ (k .ensures .0) (k .ensures .1) (c .before .before .put-blocks .ensures)
+    (k .result .blocks .list) (k .result .number) (c .before .before .put-blocks .result) _ (k .ensures .0) (k .ensures .1) (c .before .before .put-blocks .ensures)
 
 returns-3 : tie.Need-returns-3
 returns-3 c =

@@ -49,13 +49,13 @@ returns-2 c =
     let a = c .before .before .before .before .before .before .before .before .before .before .before .before .before .before .args in
     let k = c .before .before .before .before .collapsed in
     put-done (a .direction) (a .table .now) (a .room .now) (λ i. c .before .before .before .before .before .before .before .before .before .before .before .before .before .shared-slice-known .given i .fits) _ (c .before .before .before .before .before .before .before .before .before .before .read .result .table) (taken (c .before .before .before .before .before .before .before .before)) (c .before .before .before .before .before .before .before .before .before .before .before .if1 .left)
-        (CollapsedByCoarsest (sideOf (a .direction))) (c .before .before .put-table .result) _ (tableOf (k .result)) (k .ensures .1) (c .before .before .put-table .ensures)
+    (CollapsedByCoarsest (sideOf (a .direction))) (c .before .before .put-table .result) _ (tableOf (k .result)) (k .ensures .1) (c .before .before .put-table .ensures)
 
 returns-3 : tie.Need-returns-3
 returns-3 c =
     let a = c .before .before .before .before .before .before .before .before .args in
     put-refused (a .direction) (a .table .now) (a .room .now) (CollapsedByCoarsest (sideOf (a .direction))) (c .refuse2 .result) _ (c .before .before .before .before .before .if1 .left)
-        (reading-refused _ (c .before .before .before .before .read .result) _ (c .before .before .before .before .read .ensures) (c .before .before .answer .given .1)) (c .refuse2 .ensures)
+    (reading-refused _ (c .before .before .before .before .read .result) _ (c .before .before .before .before .read .ensures) (c .before .before .answer .given .1)) (c .refuse2 .ensures)
 
 pub collapse-spec : {M : Type 1} → statement M
 collapse-spec =

@@ -1,5 +1,6 @@
 -- `collapse::collapsed` meets its contract: the coarsest blocks are what the table is added up by.
 -- Assumes nothing.
+use native.Mathlib.Omega.{arith}
 use Rattle.theory.specs.Direction.{direction as sideOf}
 use Rattle.collapse.proofs.Cases.{collapsible, collapsed-to}
 use Rattle.collapse.proofs.collapsed.Statement.{statement}
@@ -8,7 +9,7 @@ use Rattle.collapse.proofs.collapsed.Tie as tie
 coarsest-requires : tie.Need-coarsest-requires
 coarsest-requires c κs =
     let p = c .before .before .pre in
-    (p .0, p .1 .holds, p .1 .proper, p .2, p .3)
+    (omega (arith, p .0), p .1 .holds, p .1 .proper, p .2, p .3)
 
 add-up-requires : tie.Need-add-up-requires
 add-up-requires c κs =

@@ -48,13 +48,13 @@ returns-2 : tie.Need-returns-2
 returns-2 c =
     let a = c .before .before .before .before .before .before .before .before .before .before .before .before .args in
     put-done (a .direction) (a .table .now) (a .room .now) (λ i. c .before .before .before .before .before .before .before .before .before .before .before .shared-slice-known .given i .fits) _ (c .before .before .before .before .before .before .before .before .read .result .table) (taken (c .before .before .before .before .before .before)) (c .before .before .before .before .before .before .before .before .before .if1 .left)
-        (Shrinks (sideOf (a .direction))) (c .before .before .put-table .result) _ (tableOf (c .before .before .before .before .shrunk .result)) (c .before .before .before .before .shrunk .ensures .1) (c .before .before .put-table .ensures)
+    (Shrinks (sideOf (a .direction))) (c .before .before .put-table .result) _ (tableOf (c .before .before .before .before .shrunk .result)) (c .before .before .before .before .shrunk .ensures .1) (c .before .before .put-table .ensures)
 
 returns-3 : tie.Need-returns-3
 returns-3 c =
     let a = c .before .before .before .before .before .before .before .before .args in
     put-refused (a .direction) (a .table .now) (a .room .now) (Shrinks (sideOf (a .direction))) (c .refuse2 .result) _ (c .before .before .before .before .before .if1 .left)
-        (reading-refused _ (c .before .before .before .before .read .result) _ (c .before .before .before .before .read .ensures) (c .before .before .answer .given .1)) (c .refuse2 .ensures)
+    (reading-refused _ (c .before .before .before .before .read .result) _ (c .before .before .before .before .read .ensures) (c .before .before .answer .given .1)) (c .refuse2 .ensures)
 
 pub shrink-spec : {M : Type 1} → statement M
 shrink-spec =

@@ -1,5 +1,5 @@
--- `collapse::shrunk` meets its contract. The loop's invariant: the next table is the present one's collapse, and what the shrink from here gives, the shrink from the start gives.
--- The measure is how many states the present table has. Assumes nothing.
+-- `collapse::shrunk` meets its contract. The loop's invariant: if the last collapse merged states, what the shrink from here gives, the shrink from the start gives; if not, it has
+-- given the present table. The measure is how many states there were before the last collapse. Assumes nothing.
 use Prim.Native.Nat.{ℕ, _-_, _≤_, _<_}
 use mathlib.Core.Path.{_≡_, sym, subst}
 use native.Mathlib.Omega.{arith}
@@ -26,57 +26,44 @@ ends d₀ X₀ d X Y t c more =
     turn-ends (sideOf d₀) X₀ (sideOf d) X Y t c (omega (arith, collapsed-few (sideOf d) X (blockOf (c .blocks)) (c .coarsest-blocks .first-use) Y (c .collapsed)))
 
 abbrev Inv-loop : tie.InvT-loop
-Inv-loop direction keys₀ codes₀ side₀ present₀ next₀ keys codes side present next =
-    (side ≤ 1) × Readable present × Readable next × CollapsedByCoarsest (sideOf side) (tableOf present) (tableOf next) × Turn (sideOf side₀) (tableOf present₀) (sideOf side) (tableOf present)
-    × (length keys ≡ 16000) × (length codes ≡ 16000)
+Inv-loop direction keys₀ codes₀ side₀ present₀ states-before₀ keys codes side present states-before =
+    (side ≤ 1) × Readable present × (present .states < states-before → Turn (sideOf side₀) (tableOf present₀) (sideOf side) (tableOf present))
+    × (states-before ≤ present .states → Shrinks (sideOf side₀) (tableOf present₀) (tableOf present)) × (length keys ≡ 16000) × (length codes ≡ 16000)
 
 abbrev μ-loop : tie.MeasureT-loop
-μ-loop direction keys₀ codes₀ side₀ present₀ next₀ keys codes side present next = present .states
-
-collapsed-requires : tie.Need-collapsed-requires Inv-loop μ-loop
-collapsed-requires c κs = let p = c .before .before .pre in (p .0, p .1, search needs, search needs)
+μ-loop direction keys₀ codes₀ side₀ present₀ states-before₀ keys codes side present states-before = states-before
 
 loop-holds : tie.Need-loop-holds Inv-loop μ-loop
 loop-holds c =
-    let s = c .before .before .before in
-    let e = c .collapsed .ensures in
-    (s .pre .0, s .pre .1, e .0, e .1, turn-starts (sideOf (s .args .direction)) (tableOf (s .args .table)), e .2, e .3)
+    (c .pre .0, c .pre .1, λ _. turn-starts (sideOf (c .args .direction)) (tableOf (c .args .table)), λ h. absurd (omega (arith, c .pre .1 .proper .states-few)), search needs, search needs)
+
+collapsed-requires : tie.Need-collapsed-requires Inv-loop μ-loop
+collapsed-requires c κs = let i = c .before .before .before .before .loop .inv in (omega (arith, i .0, c .before .before .before .before .before .pre .0), i .1, i .4, i .5)
 
 sub-side : tie.Need-sub-side Inv-loop μ-loop
-sub-side c = c .before .before .before .loop .inv .0
-
-collapsed-requires-2 : tie.Need-collapsed-requires-2 Inv-loop μ-loop
-collapsed-requires-2 c κs =
-    let i = c .before .before .before .before .before .loop .inv in
-    (omega arith, i .2, i .5, i .6)
+sub-side c = omega (arith, c .before .before .before .before .before .loop .inv .0, c .before .before .before .before .before .before .pre .0)
 
 loop-less : tie.Need-loop-less Inv-loop μ-loop
-loop-less c = c .before .before .before .if1 .taken
+loop-less c = omega (arith, c .before .before .before .if1 .taken)
 
 loop-again : tie.Need-loop-again Inv-loop μ-loop
 loop-again c =
-    let a = c .before .before .before .before .before .before .before .before .before .before .args in
-    let l = c .before .before .before .before .before .before .loop in
-    let e = c .collapsed2 .ensures in
-    (omega arith, l .inv .2, e .0, e .1,
-    goes-on (a .direction) (tableOf (a .table)) (l .side) (tableOf (l .present)) (tableOf (l .next)) (l .inv .0) (l .inv .4) (l .inv .3) (c .before .before .before .if1 .taken), e .2, e .3)
+    let a = c .before .before .before .before .before .before .args in
+    let l = c .before .before .before .before .before .loop in
+    let turn = l .inv .2 (c .before .before .before .if1 .taken) in
+    let e = c .collapsed .ensures in (
+      omega arith,
+      e .0,
+      λ less. goes-on (a .direction) (tableOf (a .table)) (l .side) (tableOf (l .present)) (tableOf (c .collapsed .result)) (l .inv .0) turn (e .1) less,
+      λ more. ends (a .direction) (tableOf (a .table)) (l .side) (tableOf (l .present)) (tableOf (c .collapsed .result)) turn (e .1) more,
+      e .2,
+      e .3,
+    )
 
 returns : tie.Need-returns Inv-loop μ-loop
-returns c =
-    let a = c .before .before .before .before .before .before .before .args in
-    let l = c .before .before .before .loop in
-    (l .inv .2, ends (a .direction) (tableOf (a .table)) (l .side) (tableOf (l .present)) (tableOf (l .next)) (l .inv .4) (l .inv .3) (c .if1 .left))
+returns c = let l = c .before .before .loop in (l .inv .1, l .inv .3 (c .if1 .left))
 
 pub shrunk-spec : {M : Type 1} → statement M
 shrunk-spec =
     tie.close
-    (tie.spec
-    Inv-loop
-    μ-loop
-    collapsed-requires
-    loop-holds
-    sub-side
-    collapsed-requires-2
-    loop-less
-    loop-again
-    returns)
+    (tie.spec Inv-loop μ-loop loop-holds collapsed-requires sub-side loop-less loop-again returns)

@@ -14,21 +14,21 @@ use Rattle.grouping.proofs.keys.fill.Statement.{statement}
 use Rattle.grouping.proofs.keys.fill.Tie as tie
 
 abbrev Inv-loop : tie.InvT-loop
-Inv-loop direction lo hi ranks symbol children target code list blocks keys₀ codes₀ i₀ keys codes i =
-    Filling lo hi (entryOf (sideOf direction) ranks symbol children target code (blockOf (blocks .list))) list keys₀ codes₀ keys codes i
+Inv-loop direction lo hi ranks symbol children target code list digits keys₀ codes₀ i₀ keys codes i =
+    Filling lo hi (entryOf (sideOf direction) ranks symbol children target code (blockOf digits)) list keys₀ codes₀ keys codes i
 
 abbrev μ-loop : tie.MeasureT-loop
-μ-loop direction lo hi ranks symbol children target code list blocks keys₀ codes₀ i₀ keys codes i = hi - i
+μ-loop direction lo hi ranks symbol children target code list digits keys₀ codes₀ i₀ keys codes i = hi - i
 
 -- the transition of the use at hand can be read
 row-at : (c : tie.After-wide16 Inv-loop μ-loop) → Row (c .before .before .before .before .args .ranks .now) (c .before .before .before .before .args .symbol .now) (rowOf (sideOf (c .before .before .before .before .args .direction)) (c .wide16 .result))
-row-at c = rw (c .wide16 .ensures .0) (c .before .before .before .before .pre .4 (c .before .before .before .loop .i) (c .before .before .before .loop .inv .begin) (c .before .before .loop-test .taken))
+row-at c = rw (c .wide16 .ensures .0) (c .before .before .before .before .pre .6 (c .before .before .before .loop .i) (c .before .before .before .loop .inv .begin) (c .before .before .loop-test .taken))
 
 at-row : (c : tie.After-row-of Inv-loop μ-loop) → c .row-of .result < 4000
 at-row c = rw (c .row-of .ensures) (row-at (c .before .before) .inside)
 
 loop-holds : tie.Need-loop-holds Inv-loop μ-loop
-loop-holds c = filling-starts (c .args .lo) (c .args .hi) (entryOf (sideOf (c .args .direction)) (c .args .ranks .now) (c .args .symbol .now) (c .args .children .now) (c .args .target .now) (c .args .code .now) (blockOf (c .args .blocks .list))) (c .args .list .now) (c .args .keys .now) (c .args .codes .now) (c .pre .3)
+loop-holds c = filling-starts (c .args .lo) (c .args .hi) (entryOf (sideOf (c .args .direction)) (c .args .ranks .now) (c .args .symbol .now) (c .args .children .now) (c .args .target .now) (c .args .code .now) (blockOf (c .args .digits .now))) (c .args .list .now) (c .args .keys .now) (c .args .codes .now) (c .pre .5)
 
 mul-wide16 : tie.Need-mul-wide16 Inv-loop μ-loop
 mul-wide16 c = search needs
@@ -40,7 +40,7 @@ wide16-requires : tie.Need-wide16-requires Inv-loop μ-loop
 wide16-requires c κs = search needs
 
 key-of-requires : tie.Need-key-of-requires Inv-loop μ-loop
-key-of-requires c κs = (c .before .before .before .before .pre .0, row-at c)
+key-of-requires c κs = let h = c .before .before .before .before .pre in (h .0, h .1, h .2, row-at c)
 
 mul-keys : tie.Need-mul-keys Inv-loop μ-loop
 mul-keys c = search needs
@@ -73,15 +73,15 @@ loop-again : tie.Need-loop-again Inv-loop μ-loop
 loop-again c =
     let a = c .before .before .before .before .before .before .before .args in
     let l = c .before .before .before .before .before .before .loop in
-    filling-goes-on (a .lo) (a .hi) (entryOf (sideOf (a .direction)) (a .ranks .now) (a .symbol .now) (a .children .now) (a .target .now) (a .code .now) (blockOf (a .blocks .list))) (a .list .now) (a .keys .now) (a .codes .now) (c .before .before .before .before .before .before .before .pre .3) (l .keys) (l .codes) (l .i) (l .inv) (c .before .before .before .before .before .loop-test .taken) (c .before .before .key-of .result) (getD (a .code .now) (c .before .row-of .result) 0)
-    (c .before .before .key-of .ensures ∙ ap (λ (u : ℕ). pack (keyIn (sideOf (a .direction)) (a .ranks .now) (a .symbol .now) (a .children .now) (a .target .now) (blockOf (a .blocks .list)) u)) (c .before .before .before .wide16 .ensures .0))
+    filling-goes-on (a .lo) (a .hi) (entryOf (sideOf (a .direction)) (a .ranks .now) (a .symbol .now) (a .children .now) (a .target .now) (a .code .now) (blockOf (a .digits .now))) (a .list .now) (a .keys .now) (a .codes .now) (c .before .before .before .before .before .before .before .pre .5) (l .keys) (l .codes) (l .i) (l .inv) (c .before .before .before .before .before .loop-test .taken) (c .before .before .key-of .result) (getD (a .code .now) (c .before .row-of .result) 0)
+    (c .before .before .key-of .ensures ∙ ap (λ (u : ℕ). pack (keyIn (sideOf (a .direction)) (a .ranks .now) (a .symbol .now) (a .children .now) (a .target .now) (blockOf (a .digits .now)) u)) (c .before .before .before .wide16 .ensures .0))
     (ap (λ (j : ℕ). getD (a .code .now) j 0) (c .before .row-of .ensures ∙ ap (rowOf (sideOf (a .direction))) (c .before .before .before .wide16 .ensures .0)))
 
 returns : tie.Need-returns Inv-loop μ-loop
 returns c =
     let a = c .before .before .args in
     let l = c .before .loop in
-    filling-ends (a .lo) (a .hi) (entryOf (sideOf (a .direction)) (a .ranks .now) (a .symbol .now) (a .children .now) (a .target .now) (a .code .now) (blockOf (a .blocks .list))) (a .list .now) (a .keys .now) (a .codes .now) (c .before .before .pre .3) (c .before .before .pre .2) (l .keys) (l .codes) (l .i) (l .inv) (c .loop-test .left)
+    filling-ends (a .lo) (a .hi) (entryOf (sideOf (a .direction)) (a .ranks .now) (a .symbol .now) (a .children .now) (a .target .now) (a .code .now) (blockOf (a .digits .now))) (a .list .now) (a .keys .now) (a .codes .now) (c .before .before .pre .5) (c .before .before .pre .4) (l .keys) (l .codes) (l .i) (l .inv) (c .loop-test .left)
 
 pub fill-spec : {M : Type 1} → statement M
 fill-spec =

@@ -14,11 +14,11 @@ use Rattle.grouping.proofs.keys.key_at.Statement.{statement}
 use Rattle.grouping.proofs.keys.key_at.Tie as tie
 
 abbrev Inv-loop : tie.InvT-loop
-Inv-loop u ranks symbol children target blocks j place own rank packed₀ k₀ packed k =
+Inv-loop u ranks symbol children target digits j place own rank packed₀ k₀ packed k =
     (k ≤ rank) × (Keys.packed packed (elsewhere place k (drop k (take rank (drop (j * 4) children)))) ≡ Keys.packed place (others place (take rank (drop (j * 4) children)))) × (packed < room (k + 1))
 
 abbrev μ-loop : tie.MeasureT-loop
-μ-loop u ranks symbol children target blocks j place own rank packed₀ k₀ packed k = rank - k
+μ-loop u ranks symbol children target digits j place own rank packed₀ k₀ packed k = rank - k
 
 element-copy-out-own : tie.Need-element-copy-out-own Inv-loop μ-loop
 element-copy-out-own c = search needs
@@ -37,11 +37,11 @@ rank-is : (c : tie.At-loop Inv-loop μ-loop) → c .before .wide2 .result ≡ ge
 rank-is c = c .before .wide2 .ensures .0 ∙ ap (λ (i : ℕ). getD (c .before .before .before .before .before .args .ranks .now) i 0) (c .before .before .before .wide .ensures .0)
 
 rank-few : (c : tie.In-loop Inv-loop μ-loop) → c .before .before .wide2 .result ≤ 4
-rank-few c = rw (rank-is (c .before)) (c .before .before .before .before .before .before .pre .1 .rank-small)
+rank-few c = rw (rank-is (c .before)) (c .before .before .before .before .before .before .pre .3 .rank-small)
 
 packed-few : (c : tie.At-loop Inv-loop μ-loop) → c .loop .packed < 1099511627776
 packed-few c =
-    let few : c .loop .k + 1 ≤ 5 = omega (arith, rank-is c, c .before .before .before .before .before .pre .1 .rank-small) in
+    let few : c .loop .k + 1 ≤ 5 = omega (arith, rank-is c, c .before .before .before .before .before .pre .3 .rank-small) in
     omega (arith, room-few (c .loop .k + 1) few)
 
 loop-holds : tie.Need-loop-holds Inv-loop μ-loop
@@ -77,18 +77,12 @@ loop-again c =
     let l = c .before .before .loop in
     let more = c .before .loop-test .taken in
     let long = c .before .before .before .before .before .before .before .pre .0 .children-long in
-    let inside = c .before .before .before .before .before .before .before .pre .1 .inside in
+    let inside = c .before .before .before .before .before .before .before .pre .3 .inside in
     let few = rank-few (c .before) in
     ⊎-elim
     (λ w. (omega arith, rw (w .3, w .2 .ensures .0) (sym (packing-next (a .children .now) (a .u / 4) (c .before .before .before .wide2 .result) (l .k) (a .u % 4) (l .packed) long inside few more (w .0 .taken)) ∙ l .inv .1), rw (w .3) (room-next (l .packed) (l .k + 1) (w .2 .result) (l .inv .2) (w .2 .ensures .1))))
     (λ w. (omega arith, rw (w .1) (sym (packing-skips (a .children .now) (a .u / 4) (c .before .before .before .wide2 .result) (l .k) (a .u % 4) (l .packed) long inside few more (w .0 .left)) ∙ l .inv .1), rw (w .1) (room-more (l .packed) (l .k + 1) (l .inv .2))))
     (c .if1 .came)
-
-element-copy-out-t17 : tie.Need-element-copy-out-t17 Inv-loop μ-loop
-element-copy-out-t17 c = search needs
-
-of-requires : tie.Need-of-requires Inv-loop μ-loop
-of-requires c κs = search needs
 
 long-requires-2 : tie.Need-long-requires-2 Inv-loop μ-loop
 long-requires-2 c κs = search needs
@@ -97,16 +91,35 @@ mul-result : tie.Need-mul-result Inv-loop μ-loop
 mul-result c = search needs
 
 mul-result-2 : tie.Need-mul-result-2 Inv-loop μ-loop
-mul-result-2 c = let most = packed-few (c .before .before .before .before) in omega arith
+mul-result-2 c = let most = packed-few (c .before .before) in omega arith
 
-long-requires-3 : tie.Need-long-requires-3 Inv-loop μ-loop
-long-requires-3 c κs = search needs
+element-copy-out-wide-2 : tie.Need-element-copy-out-wide-2 Inv-loop μ-loop
+element-copy-out-wide-2 c = search needs
+
+wide-requires-3 : tie.Need-wide-requires-3 Inv-loop μ-loop
+wide-requires-3 c κs = search needs
+
+mul-result-3 : tie.Need-mul-result-3 Inv-loop μ-loop
+mul-result-3 c = search needs
+
+element-copy-out-result : tie.Need-element-copy-out-result Inv-loop μ-loop
+element-copy-out-result c = search needs
+
+-- the target's block is a digit
+digit-small : (c : tie.After-result Inv-loop μ-loop) → getD (c .before .before .before .before .before .before .before .before .before .before .args .digits .now) (c .before .wide3 .result) 0 < 256
+digit-small c = c .before .before .before .before .before .before .before .before .before .before .pre .2 (c .before .wide3 .result)
 
 add-result : tie.Need-add-result Inv-loop μ-loop
-add-result c = let most = packed-few (c .before .before .before .before .before) in omega arith
+add-result c =
+    let most = packed-few (c .before .before .before .before .before) in
+    let small = digit-small c in
+    omega arith
 
 add-result-2 : tie.Need-add-result-2 Inv-loop μ-loop
-add-result-2 c = let most = packed-few (c .before .before .before .before .before) in omega arith
+add-result-2 c =
+    let most = packed-few (c .before .before .before .before .before) in
+    let small = digit-small c in
+    omega arith
 
 returns : tie.Need-returns Inv-loop μ-loop
 returns c =
@@ -116,7 +129,7 @@ returns c =
     sym (ap (λ (qs : List ℕ). Keys.packed (l .packed) (elsewhere (a .u % 4) (l .k) qs)) (children-end (drop (a .u / 4 * 4) (a .children .now)) (c .before .before .before .before .before .before .wide2 .result) (l .k) (c .before .before .before .before .loop-test .left))) ∙ l .inv .1 in
     let whole : l .packed ≡ Keys.packed (0 + a .u % 4) (others (a .u % 4) (take (getD (a .ranks .now) (getD (a .symbol .now) (a .u / 4) 0) 0) (drop (a .u / 4 * 4) (a .children .now)))) =
     done ∙ ap₂ (λ (n r : ℕ). Keys.packed n (others (a .u % 4) (take r (drop (a .u / 4 * 4) (a .children .now))))) (sym (zero-add (a .u % 4))) (rank-is (c .before .before .before .before .before)) in
-    ap₂ (λ (x y : ℕ). x * 1099511627776 + y) (c .before .long2 .ensures .0) (ap₂ (λ (x y : ℕ). x * 256 + y) whole (c .long3 .ensures .0 ∙ c .before .before .of .ensures))
+    ap₂ (λ (x y : ℕ). x * 1099511627776 + y) (c .before .before .before .long2 .ensures .0) (ap₂ (λ (x y : ℕ). x * 256 + y) whole (ap (λ (q : ℕ). getD (a .digits .now) q 0) (c .before .wide3 .ensures .0)))
 
 pub key-at-spec : {M : Type 1} → statement M
 key-at-spec =
@@ -138,12 +151,13 @@ key-at-spec =
     add-k
     loop-less
     loop-again
-    element-copy-out-t17
-    of-requires
     long-requires-2
     mul-result
     mul-result-2
-    long-requires-3
+    element-copy-out-wide-2
+    wide-requires-3
+    mul-result-3
+    element-copy-out-result
     add-result
     add-result-2
     returns)

@@ -13,14 +13,14 @@ use Rattle.grouping.proofs.keys.sum_up_members.Statement.{statement}
 use Rattle.grouping.proofs.keys.sum_up_members.Tie as tie
 
 abbrev Inv-loop : tie.InvT-loop
-Inv-loop direction arithmetic many found ranks symbol children target code starts list blocks ends₀ keys₀ codes₀ i₀ ends keys codes i =
-    (i ≤ many) × Profiling starts list (entryOf (sideOf direction) ranks symbol children target code (blockOf (blocks .list))) arithmetic found ends keys codes i
+Inv-loop direction arithmetic many found ranks symbol children target code starts list digits ends₀ keys₀ codes₀ i₀ ends keys codes i =
+    (i ≤ many) × Profiling starts list (entryOf (sideOf direction) ranks symbol children target code (blockOf digits)) arithmetic found ends keys codes i
 
 abbrev μ-loop : tie.MeasureT-loop
-μ-loop direction arithmetic many found ranks symbol children target code starts list blocks ends₀ keys₀ codes₀ i₀ ends keys codes i = many - i
+μ-loop direction arithmetic many found ranks symbol children target code starts list digits ends₀ keys₀ codes₀ i₀ ends keys codes i = many - i
 
 loop-holds : tie.Need-loop-holds Inv-loop μ-loop
-loop-holds c = let a = c .args in (omega arith, profiling-starts (a .starts .now) (a .list .now) (entryOf (sideOf (a .direction)) (a .ranks .now) (a .symbol .now) (a .children .now) (a .target .now) (a .code .now) (blockOf (a .blocks .list))) (a .arithmetic) (a .found .now) (a .ends .now) (a .keys .now) (a .codes .now) (c .pre .6) (c .pre .3) (c .pre .4))
+loop-holds c = let a = c .args in (omega arith, profiling-starts (a .starts .now) (a .list .now) (entryOf (sideOf (a .direction)) (a .ranks .now) (a .symbol .now) (a .children .now) (a .target .now) (a .code .now) (blockOf (a .digits .now))) (a .arithmetic) (a .found .now) (a .ends .now) (a .keys .now) (a .codes .now) (c .pre .8) (c .pre .5) (c .pre .6))
 
 element-copy-out-p : tie.Need-element-copy-out-p Inv-loop μ-loop
 element-copy-out-p c = search needs
@@ -29,15 +29,15 @@ wide-requires : tie.Need-wide-requires Inv-loop μ-loop
 wide-requires c κs = search needs
 
 sum-up-one-requires : tie.Need-sum-up-one-requires Inv-loop μ-loop
-sum-up-one-requires c κs = let h = c .before .before .before .before .before .before .pre in let l = c .before .before .before .before .before .loop in (h .0, h .1, h .2, l .inv .1 .keys-long, l .inv .1 .codes-long)
+sum-up-one-requires c κs = let h = c .before .before .before .before .before .before .pre in let l = c .before .before .before .before .before .loop in (h .0, h .1, h .2, h .3, h .4, l .inv .1 .keys-long, l .inv .1 .codes-long)
 
 cast-ends : tie.Need-cast-ends Inv-loop μ-loop
 cast-ends c =
     let a = c .before .before .before .before .before .before .before .args in
     let p = getD (a .found .now) (c .before .before .before .before .before .before .loop .i) 0 in
     let small : p < 256 = omega (arith, c .before .before .before .wide .ensures .0, c .before .before .before .wide .ensures .1) in
-    let most = starts-ascend (sideOf (a .direction)) (a .ranks .now) (a .symbol .now) (a .starts .now) (a .list .now) (c .before .before .before .before .before .before .before .pre .2) (suc p) 256 small (omega arith) in
-    omega (arith, c .sum-up-one .ensures .0 .within, c .before .before .before .before .before .before .before .pre .2 .few)
+    let most = starts-ascend (sideOf (a .direction)) (a .ranks .now) (a .symbol .now) (a .starts .now) (a .list .now) (c .before .before .before .before .before .before .before .pre .4) (suc p) 256 small (omega arith) in
+    omega (arith, c .sum-up-one .ensures .0 .within, c .before .before .before .before .before .before .before .pre .4 .few)
 
 mul-ends : tie.Need-mul-ends Inv-loop μ-loop
 mul-ends c = search needs
@@ -57,7 +57,7 @@ loop-again c =
     let l = c .before .before .before .before .before .before .loop in
     let more = c .before .before .before .before .before .loop-test .taken in
     let own = c .before .before .before .wide .ensures .0 in
-    (omega arith, profiling-goes-on (sideOf (a .direction)) (a .ranks .now) (a .symbol .now) (a .starts .now) (a .list .now) (c .before .before .before .before .before .before .before .pre .2) (entryOf (sideOf (a .direction)) (a .ranks .now) (a .symbol .now) (a .children .now) (a .target .now) (a .code .now) (blockOf (a .blocks .list))) (a .arithmetic) (a .found .now) (l .ends) (l .keys) (l .codes) (c .sum-up-one .last .1 .1 .1 .1 .1 .1 .1 .1 .1 .1 .1 .0) (c .sum-up-one .last .1 .1 .1 .1 .1 .1 .1 .1 .1 .1 .1 .1 .0) (l .i) (c .before .before .before .wide .result) (c .sum-up-one .result) (l .inv .1) own (c .before .before .before .wide .ensures .1) (rw own (c .sum-up-one .ensures .0)) (rw own (c .sum-up-one .ensures .1 .0)) (rw own (c .sum-up-one .ensures .1 .1)))
+    (omega arith, profiling-goes-on (sideOf (a .direction)) (a .ranks .now) (a .symbol .now) (a .starts .now) (a .list .now) (c .before .before .before .before .before .before .before .pre .4) (entryOf (sideOf (a .direction)) (a .ranks .now) (a .symbol .now) (a .children .now) (a .target .now) (a .code .now) (blockOf (a .digits .now))) (a .arithmetic) (a .found .now) (l .ends) (l .keys) (l .codes) (c .sum-up-one .last .1 .1 .1 .1 .1 .1 .1 .1 .1 .1 .1 .0) (c .sum-up-one .last .1 .1 .1 .1 .1 .1 .1 .1 .1 .1 .1 .1 .0) (l .i) (c .before .before .before .wide .result) (c .sum-up-one .result) (l .inv .1) own (c .before .before .before .wide .ensures .1) (rw own (c .sum-up-one .ensures .0)) (rw own (c .sum-up-one .ensures .1 .0)) (rw own (c .sum-up-one .ensures .1 .1)))
 
 returns : tie.Need-returns Inv-loop μ-loop
 returns c =

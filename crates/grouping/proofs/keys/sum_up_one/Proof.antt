@@ -47,23 +47,23 @@ inside c =
     let a = c .before .before .before .before .before .args in
     let r = region c in
     let small : a .p .0 < 256 = omega (arith, c .before .before .before .before .wide .ensures .0, c .before .before .before .before .wide .ensures .1) in
-    let up = c .before .before .before .before .before .pre .2 .ascend (a .p .0) small in
-    let most = starts-ascend (sideOf (a .direction)) (a .ranks .now) (a .symbol .now) (a .starts .now) (a .list .now) (c .before .before .before .before .before .pre .2) (suc (a .p .0)) 256 small (omega arith) in
-    let few : start (a .starts .now) 256 ≤ 16000 = c .before .before .before .before .before .pre .2 .few in
+    let up = c .before .before .before .before .before .pre .4 .ascend (a .p .0) small in
+    let most = starts-ascend (sideOf (a .direction)) (a .ranks .now) (a .symbol .now) (a .starts .now) (a .list .now) (c .before .before .before .before .before .pre .4) (suc (a .p .0)) 256 small (omega arith) in
+    let few : start (a .starts .now) 256 ≤ 16000 = c .before .before .before .before .before .pre .4 .few in
     (omega (arith, r .0, r .1), omega (arith, r .1), few)
 
 fill-requires : tie.Need-fill-requires
 fill-requires c κs =
     let i = inside (c .before .before) in
     let h = c .before .before .before .before .before .before .before .pre in
-    (h .0, h .1, h .2 .list-long, record { ordered = i .0; inside = omega (arith, i .1, i .2); keys-long = h .3; codes-long = h .4 }, λ k l m. h .2 .rows k (omega (arith, i .1)))
+    (h .0, h .1, h .2, h .3, h .4 .list-long, record { ordered = i .0; inside = omega (arith, i .1, i .2); keys-long = h .5; codes-long = h .6 }, λ k l m. h .4 .rows k (omega (arith, i .1)))
 
 sum-up-requires : tie.Need-sum-up-requires
 sum-up-requires c κs =
     let i = inside (c .before .before .before .before .before) in
     let h = c .before .before .before .before .before .before .before .before .before .before .pre in
     let f = c .before .before .fill .ensures in
-    record { ordered = i .0; inside = omega (arith, i .1, i .2); keys-long = f .keys-kept .long ∙ h .3; codes-long = f .codes-kept .long ∙ h .4 }
+    record { ordered = i .0; inside = omega (arith, i .1, i .2); keys-long = f .keys-kept .long ∙ h .5; codes-long = f .codes-kept .long ∙ h .6 }
 
 returns : tie.Need-returns
 returns c =

@@ -5,18 +5,18 @@ use mathlib.Core.Path.{_≡_, sym}
 use native.Mathlib.Omega.{arith}
 use borrow.Author.Needs.{needs}
 use Rattle.partition.specs.Members.{dirtyCount}
-use Rattle.partition.proofs.Counting.{counting-starts, counting-dirty, counting-clean, count-few}
+use Rattle.partition.proofs.Counting.{counting-dirty, counting-clean, count-few, count-none}
 use Rattle.partition.proofs.members.count_dirty.Statement.{statement}
 use Rattle.partition.proofs.members.count_dirty.Tie as tie
 
 abbrev Inv-loop : tie.InvT-loop
-Inv-loop states dirty count₀ q₀ count q = (q ≤ states) × (count ≡ dirtyCount dirty q)
+Inv-loop first states dirty count₀ q₀ count q = (q ≤ states) × (count ≡ dirtyCount dirty q)
 
 abbrev μ-loop : tie.MeasureT-loop
-μ-loop states dirty count₀ q₀ count q = states - q
+μ-loop first states dirty count₀ q₀ count q = states - q
 
 loop-holds : tie.Need-loop-holds Inv-loop μ-loop
-loop-holds c = (omega arith, sym (counting-starts (c .args .dirty .now)))
+loop-holds c = (c .pre .1, sym (count-none (c .args .dirty .now) (c .args .first) (c .pre .2)))
 
 element-copy-out-if1 : tie.Need-element-copy-out-if1 Inv-loop μ-loop
 element-copy-out-if1 c = search needs

@@ -1,10 +1,10 @@
--- `lists::BlockList::of` meets its contract. Assumes nothing.
+-- `partition::NameList::of` meets its contract. Assumes nothing.
 use Prim.Native.Nat.{ℕ}
 use mathlib.Core.Path.{ap}
 use lib.ListN.{getD}
 use borrow.Author.Needs.{needs}
-use Rattle.lists.proofs.BlockList.of.Statement.{statement}
-use Rattle.lists.proofs.BlockList.of.Tie as tie
+use Rattle.partition.proofs.NameList.of.Statement.{statement}
+use Rattle.partition.proofs.NameList.of.Tie as tie
 
 wide-requires : tie.Need-wide-requires
 wide-requires c κs = search needs

@@ -1,12 +1,12 @@
--- `lists::BlockList::put` meets its contract: the front of the list has as many bytes as it is asked for, and is copied.
+-- `partition::BlockList::put` meets its contract: the front of the list has as many bytes as it is asked for, and is copied.
 -- Assumes nothing.
 use mathlib.Core.Path.{_≡_, sym}
 use native.Mathlib.Omega.{arith}
 use lib.ListN.{length, take}
 use lib.Seq.{length-take-le, take-length}
 use borrow.Author.Needs.{needs}
-use Rattle.lists.proofs.BlockList.put.Statement.{statement}
-use Rattle.lists.proofs.BlockList.put.Tie as tie
+use Rattle.partition.proofs.BlockList.put.Statement.{statement}
+use Rattle.partition.proofs.BlockList.put.Tie as tie
 
 array-share-prefix-list : tie.Need-array-share-prefix-list
 array-share-prefix-list c = let l : length (c .before .before .args .self .list) ≡ 256 = search needs in omega arith
