@@ -11,7 +11,8 @@ ghost use Rattle.format.specs.Written.{bytesOf};
 ghost use Rattle.tables.specs.Record.{tableOf};
 ghost use Rattle.writer.specs.Writable.{Writable};
 ghost use Rattle.calls.specs.Answers.{fits, filled};
-ghost use Rattle.theory.specs.Direction.{direction as sideOf};
+ghost use Rattle.theory.specs.Blocks.{blockOf, blockCount};
+ghost use Rattle.theory.specs.Direction.{direction as sideOf, CoarsestBlocks};
 ghost use Rattle.theory.specs.Collapse.{CollapsedByCoarsest};
 ghost use Rattle.theory.specs.Shrink.{Shrinks};
 ghost use Rattle.collapse.specs.Promises.{blocksAnswer, written, refusedBy, Blocks, Collapses, ShrinksTo};
@@ -91,17 +92,19 @@ pub fn blocks(direction: u32, table: &[u8], room: &mut [u8]) -> Answer
     }
 }
 
-// A record collapsed by its coarsest blocks. Keys and codes are lent to work in.
+// A record collapsed by its coarsest blocks. Keys and codes are lent to work in. (The blocks are found by the caller: what finding them
+// needs on the stack and what adding up needs are not there at the same time.)
 fn collapsed(
     direction: u32,
     table: TableRecord,
+    found: Partition,
     keys: &mut [u64; 16000],
     codes: &mut [u32; 16000],
 ) -> TableRecord
-    requires { ⌜ (direction ≤ 1) × Readable table × (length (now keys) ≡ 16000) × (length (now codes) ≡ 16000) ⌝ }
+    requires { ⌜ Readable table × CoarsestBlocks (sideOf direction) (tableOf table) (take (table .states) (found .blocks .list))
+        × (found .number ≡ blockCount (blockOf (take (table .states) (found .blocks .list))) (table .states)) × (length (now keys) ≡ 16000) × (length (now codes) ≡ 16000) ⌝ }
     ensures { λ r. ⌜ Readable r × CollapsedByCoarsest (sideOf direction) (tableOf table) (tableOf r) × (length (now (keys .exit)) ≡ 16000) × (length (now (codes .exit)) ≡ 16000) ⌝ }
 {
-    let found = refine::coarsest(direction, table, keys, codes);
     let blocks = found.blocks;
     adding::add_up(direction, table, blocks, found.number, keys, codes)
 }
@@ -120,7 +123,9 @@ pub fn collapse(direction: u32, table: &[u8], room: &mut [u8]) -> Counted
             let record = reading.table;
             let mut keys = [0u64; 16000];
             let mut codes = [0u32; 16000];
-            put_table(collapsed(direction, record, &mut keys, &mut codes), room)
+            let found = refine::coarsest(direction, record, &mut keys, &mut codes);
+            let next = collapsed(direction, record, found, &mut keys, &mut codes);
+            put_table(next, room)
         }
         Answer::Refused(refusal) => refuse(refusal),
     }
@@ -139,7 +144,8 @@ fn shrunk(direction: u32, table: TableRecord) -> TableRecord
     let mut states_before = 257;
     while present.states < states_before {
         states_before = present.states;
-        present = collapsed(side, present, &mut keys, &mut codes);
+        let found = refine::coarsest(side, present, &mut keys, &mut codes);
+        present = collapsed(side, present, found, &mut keys, &mut codes);
         side = 1 - side;
     }
     present

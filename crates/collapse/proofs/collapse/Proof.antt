@@ -28,9 +28,15 @@ read-requires c κs = search needs
 enum-told : tie.Need-enum-told
 enum-told c = search needs
 
+coarsest-requires : tie.Need-coarsest-requires
+coarsest-requires c κs =
+    let r = taken-readable (c .before .before .before .before .before .before .before .before .before .args .table .now) (λ i. c .before .before .before .before .before .before .before .before .shared-slice-known .given i .fits) _ (c .before .before .before .before .before .read .result .table) (taken (c .before .before .before)) in
+    (c .before .before .before .before .before .before .if1 .left, r .holds, r .proper, search needs, search needs)
+
 collapsed-requires : tie.Need-collapsed-requires
 collapsed-requires c κs =
-    (c .before .before .before .before .before .before .if1 .left, taken-readable (c .before .before .before .before .before .before .before .before .before .args .table .now) (λ i. c .before .before .before .before .before .before .before .before .shared-slice-known .given i .fits) _ (c .before .before .before .before .before .read .result .table) (taken (c .before .before .before)), search needs, search needs)
+    let k = c .before .before .coarsest .ensures in
+    (taken-readable (c .before .before .before .before .before .before .before .before .before .before .before .before .args .table .now) (λ i. c .before .before .before .before .before .before .before .before .before .before .before .shared-slice-known .given i .fits) _ (c .before .before .before .before .before .before .before .before .read .result .table) (taken (c .before .before .before .before .before .before)), k .0, k .1, k .2, k .3)
 
 put-table-requires : tie.Need-put-table-requires
 put-table-requires c κs = readable-writable (c .before .collapsed .result) (c .before .collapsed .ensures .0)
@@ -46,9 +52,9 @@ same-length c = search needs
 
 returns-2 : tie.Need-returns-2
 returns-2 c =
-    let a = c .before .before .before .before .before .before .before .before .before .before .before .before .before .before .args in
+    let a = c .before .before .before .before .before .before .before .before .before .before .before .before .before .before .before .before .before .args in
     let k = c .before .before .before .before .collapsed in
-    put-done (a .direction) (a .table .now) (a .room .now) (λ i. c .before .before .before .before .before .before .before .before .before .before .before .before .before .shared-slice-known .given i .fits) _ (c .before .before .before .before .before .before .before .before .before .before .read .result .table) (taken (c .before .before .before .before .before .before .before .before)) (c .before .before .before .before .before .before .before .before .before .before .before .if1 .left)
+    put-done (a .direction) (a .table .now) (a .room .now) (λ i. c .before .before .before .before .before .before .before .before .before .before .before .before .before .before .before .before .shared-slice-known .given i .fits) _ (c .before .before .before .before .before .before .before .before .before .before .before .before .before .read .result .table) (taken (c .before .before .before .before .before .before .before .before .before .before .before)) (c .before .before .before .before .before .before .before .before .before .before .before .before .before .before .if1 .left)
     (CollapsedByCoarsest (sideOf (a .direction))) (c .before .before .put-table .result) _ (tableOf (k .result)) (k .ensures .1) (c .before .before .put-table .ensures)
 
 returns-3 : tie.Need-returns-3
@@ -65,6 +71,7 @@ collapse-spec =
     returns
     read-requires
     enum-told
+    coarsest-requires
     collapsed-requires
     put-table-requires
     enum-known-answer

@@ -37,20 +37,27 @@ loop-holds : tie.Need-loop-holds Inv-loop μ-loop
 loop-holds c =
     (c .pre .0, c .pre .1, λ _. turn-starts (sideOf (c .args .direction)) (tableOf (c .args .table)), λ h. absurd (omega (arith, c .pre .1 .proper .states-few)), search needs, search needs)
 
+coarsest-requires : tie.Need-coarsest-requires Inv-loop μ-loop
+coarsest-requires c κs =
+    let i = c .before .before .before .before .loop .inv in
+    (omega (arith, i .0, c .before .before .before .before .before .pre .0), i .1 .holds, i .1 .proper, i .4, i .5)
+
 collapsed-requires : tie.Need-collapsed-requires Inv-loop μ-loop
-collapsed-requires c κs = let i = c .before .before .before .before .loop .inv in (omega (arith, i .0, c .before .before .before .before .before .pre .0), i .1, i .4, i .5)
+collapsed-requires c κs =
+    let k = c .before .before .coarsest .ensures in
+    (c .before .before .before .before .before .before .before .loop .inv .1, k .0, k .1, k .2, k .3)
 
 sub-side : tie.Need-sub-side Inv-loop μ-loop
-sub-side c = omega (arith, c .before .before .before .before .before .loop .inv .0, c .before .before .before .before .before .before .pre .0)
+sub-side c = omega (arith, c .before .before .before .before .before .before .before .before .loop .inv .0, c .before .before .before .before .before .before .before .before .before .pre .0)
 
 loop-less : tie.Need-loop-less Inv-loop μ-loop
-loop-less c = omega (arith, c .before .before .before .if1 .taken)
+loop-less c = omega (arith, c .before .before .before .before .before .before .if1 .taken)
 
 loop-again : tie.Need-loop-again Inv-loop μ-loop
 loop-again c =
-    let a = c .before .before .before .before .before .before .args in
-    let l = c .before .before .before .before .before .loop in
-    let turn = l .inv .2 (c .before .before .before .if1 .taken) in
+    let a = c .before .before .before .before .before .before .before .before .before .args in
+    let l = c .before .before .before .before .before .before .before .before .loop in
+    let turn = l .inv .2 (c .before .before .before .before .before .before .if1 .taken) in
     let e = c .collapsed .ensures in (
       omega arith,
       e .0,
@@ -66,4 +73,4 @@ returns c = let l = c .before .before .loop in (l .inv .1, l .inv .3 (c .if1 .le
 pub shrunk-spec : {M : Type 1} → statement M
 shrunk-spec =
     tie.close
-    (tie.spec Inv-loop μ-loop loop-holds collapsed-requires sub-side loop-less loop-again returns)
+    (tie.spec Inv-loop μ-loop loop-holds coarsest-requires collapsed-requires sub-side loop-less loop-again returns)
