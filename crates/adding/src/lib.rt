@@ -194,12 +194,12 @@ fn is_named(q: State, named: &[bool; 256]) -> bool
     named[i]
 }
 
-fn digit_of(q: State, digits: &[u64; 256]) -> u64
-    requires { ⌜ length (now digits) ≡ 256 ⌝ }
+fn digit_of(q: State, digits: &[u32; 256]) -> u64
+    requires { ⌜ (length (now digits) ≡ 256) × Bytes (now digits) ⌝ }
     ensures { λ r. ⌜ (q .0 < 256) × (r ≡ blockOf (now (digits .entry)) (q .0)) ⌝ }
 {
     let i = wide(q.0);
-    digits[i]
+    digits[i] as u64
 }
 
 // Whether the children of transition j are all named.
@@ -252,7 +252,7 @@ fn key_of<'a>(
     symbol: &'a [u8; 4000],
     children: &'a [u8; 16000],
     target: &'a [u8; 4000],
-    digits: &[u64; 256],
+    digits: &[u32; 256],
 ) -> u64
     requires { ⌜ (length (now ranks) ≡ 128) × (length (now symbol) ≡ 4000) × (length (now children) ≡ 16000) × (length (now target) ≡ 4000) × (length (now digits) ≡ 256) × Bytes (now digits) × Row (now ranks) (now symbol) j ⌝ }
     ensures { λ r. ⌜ r ≡ pack (blockKey (blockOf (now (digits .entry))) (rowAt (columns (now (ranks .entry)) (now (symbol .entry)) (now (children .entry)) (now (target .entry)) []) j)) ⌝ }

@@ -31,7 +31,7 @@ fn key_into<'a>(
     ranks: &'a [u8; 128],
     symbol: &'a [u8; 4000],
     children: &'a [u8; 16000],
-    digits: &[u64; 256],
+    digits: &[u32; 256],
 ) -> u64
     requires { ⌜ (length (now ranks) ≡ 128) × (length (now symbol) ≡ 4000) × (length (now children) ≡ 16000) × (length (now digits) ≡ 256) × ((q : ℕ) → getD (now digits) q 0 < 256) × Row (now ranks) (now symbol) j ⌝ }
     ensures { λ r. ⌜ r ≡ pack (keyIn backward (now (ranks .entry)) (now (symbol .entry)) (now (children .entry)) [] (blockOf (now (digits .entry))) j) ⌝ }
@@ -41,7 +41,7 @@ fn key_into<'a>(
     let mut packed: u64 = 0;
     let mut k = 0;
     while k < rank {
-        packed = packed * 256 + digits[wide(children[j * 4 + k])];
+        packed = packed * 256 + digits[wide(children[j * 4 + k])] as u64;
         k += 1;
     }
     long(own) * SYMBOL + packed
@@ -54,7 +54,7 @@ fn key_at<'a>(
     symbol: &'a [u8; 4000],
     children: &'a [u8; 16000],
     target: &'a [u8; 4000],
-    digits: &[u64; 256],
+    digits: &[u32; 256],
 ) -> u64
     requires { ⌜ Long (now ranks) (now symbol) (now children) (now target) × (length (now digits) ≡ 256) × ((q : ℕ) → getD (now digits) q 0 < 256) × Row (now ranks) (now symbol) (u / 4) ⌝ }
     ensures { λ r. ⌜ r ≡ pack (keyIn forward (now (ranks .entry)) (now (symbol .entry)) (now (children .entry)) (now (target .entry)) (blockOf (now (digits .entry))) u) ⌝ }
@@ -71,7 +71,7 @@ fn key_at<'a>(
         }
         k += 1;
     }
-    long(own) * SYMBOL + (packed * 256 + digits[wide(target[j])])
+    long(own) * SYMBOL + (packed * 256 + digits[wide(target[j])] as u64)
 }
 
 fn key_of<'a>(
@@ -81,7 +81,7 @@ fn key_of<'a>(
     symbol: &'a [u8; 4000],
     children: &'a [u8; 16000],
     target: &'a [u8; 4000],
-    digits: &[u64; 256],
+    digits: &[u32; 256],
 ) -> u64
     requires { ⌜ Long (now ranks) (now symbol) (now children) (now target) × (length (now digits) ≡ 256) × ((q : ℕ) → getD (now digits) q 0 < 256) × Row (now ranks) (now symbol) (rowOf (sideOf direction) u) ⌝ }
     ensures { λ r. ⌜ r ≡ pack (keyIn (sideOf direction) (now (ranks .entry)) (now (symbol .entry)) (now (children .entry)) (now (target .entry)) (blockOf (now (digits .entry))) u) ⌝ }
@@ -113,7 +113,7 @@ fn fill<'a>(
     target: &'a [u8; 4000],
     code: &'a [u32; 4000],
     list: &'a [u16; 16000],
-    digits: &[u64; 256],
+    digits: &[u32; 256],
     keys: &mut [u64; 16000],
     codes: &mut [u32; 16000],
 )
@@ -141,7 +141,7 @@ fn sum_up_one<'a>(
     code: &'a [u32; 4000],
     starts: &'a [u16; 257],
     list: &'a [u16; 16000],
-    digits: &[u64; 256],
+    digits: &[u32; 256],
     keys: &mut [u64; 16000],
     codes: &mut [u32; 16000],
 ) -> usize
@@ -182,7 +182,7 @@ pub fn sum_up_members<'a>(
     code: &'a [u32; 4000],
     starts: &'a [u16; 257],
     list: &'a [u16; 16000],
-    digits: &[u64; 256],
+    digits: &[u32; 256],
     ends: &mut [u16; 256],
     keys: &mut [u64; 16000],
     codes: &mut [u32; 16000],

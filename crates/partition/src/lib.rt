@@ -58,14 +58,14 @@ impl BlockList {
     }
 
     // The number of each state's block, as a digit of a key.
-    pub fn digits(self) -> [u64; 256]
+    pub fn digits(self) -> [u32; 256]
         ensures { λ r. ⌜ (r ≡ self .list) × ((q : ℕ) → getD r q 0 < 256) ⌝ }
     {
         let list = self.list;
-        let mut digits = [0u64; 256];
+        let mut digits = [0u32; 256];
         let mut q = 0;
         while q < 256 {
-            digits[q] = wide(list[q]) as u64;
+            digits[q] = wide(list[q]) as u32;
             q += 1;
         }
         digits

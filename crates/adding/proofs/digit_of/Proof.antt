@@ -16,10 +16,13 @@ mul-result c = search needs
 element-copy-out-result : tie.Need-element-copy-out-result
 element-copy-out-result c = search needs
 
+cast-result : tie.Need-cast-result
+cast-result c = omega (arith, c .before .before .pre .1 (c .before .wide .result) (c .before .wide .ensures .1))
+
 returns : tie.Need-returns
 returns c =
     let s = c .before .before in
     (omega (arith, c .before .wide .ensures), ap (blockOf (s .args .digits .now)) (c .before .wide .ensures .0))
 
 pub digit-of-spec : {M : Type 1} → statement M
-digit-of-spec = tie.close (tie.spec wide-requires mul-result element-copy-out-result returns)
+digit-of-spec = tie.close (tie.spec wide-requires mul-result element-copy-out-result cast-result returns)

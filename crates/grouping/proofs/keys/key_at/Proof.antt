@@ -109,6 +109,9 @@ element-copy-out-result c = search needs
 digit-small : (c : tie.After-result Inv-loop μ-loop) → getD (c .before .before .before .before .before .before .before .before .before .before .args .digits .now) (c .before .wide3 .result) 0 < 256
 digit-small c = c .before .before .before .before .before .before .before .before .before .before .pre .2 (c .before .wide3 .result)
 
+cast-result : tie.Need-cast-result Inv-loop μ-loop
+cast-result c = omega (arith, digit-small c)
+
 add-result : tie.Need-add-result Inv-loop μ-loop
 add-result c =
     let most = packed-few (c .before .before .before .before .before) in
@@ -158,6 +161,7 @@ key-at-spec =
     wide-requires-3
     mul-result-3
     element-copy-out-result
+    cast-result
     add-result
     add-result-2
     returns)

@@ -66,6 +66,9 @@ mul-packed-2 c = search needs
 element-copy-out-packed : tie.Need-element-copy-out-packed Inv-loop μ-loop
 element-copy-out-packed c = search needs
 
+cast-packed : tie.Need-cast-packed Inv-loop μ-loop
+cast-packed c = omega (arith, c .before .before .before .before .before .before .before .before .before .pre .4 (c .before .wide3 .result))
+
 add-packed : tie.Need-add-packed Inv-loop μ-loop
 add-packed c =
     let most = packed-few (c .before .before .before .before) in
@@ -122,6 +125,7 @@ key-into-spec =
     wide-requires-3
     mul-packed-2
     element-copy-out-packed
+    cast-packed
     add-packed
     add-k
     loop-less

@@ -26,6 +26,9 @@ array-read-wide c = search needs
 wide-requires : tie.Need-wide-requires Inv-loop μ-loop
 wide-requires c κs = search needs
 
+cast-digits : tie.Need-cast-digits Inv-loop μ-loop
+cast-digits c = omega (arith, c .wide .ensures)
+
 mul-digits : tie.Need-mul-digits Inv-loop μ-loop
 mul-digits c = search needs
 
@@ -70,6 +73,7 @@ digits-spec =
     loop-holds
     array-read-wide
     wide-requires
+    cast-digits
     mul-digits
     array-write-digits
     add-q
