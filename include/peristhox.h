@@ -67,7 +67,7 @@ extern "C" {
 #define PERISTHOX_NODES_MAX 4096    /* nodes of a tree */
 #define PERISTHOX_SHEET_MAX 1048576 /* numbers of a sheet: PERISTHOX_NODES_MAX times PERISTHOX_STATES_MAX */
 #define PERISTHOX_WEIGHT_MAX INT64_C(8798240501759) /* PERISTHOX_MAX_PLUS: how far from 0 a weight that isn't nothing lies */
-#define PERISTHOX_STACK 1048576     /* bytes of stack that are enough for every call (blocks: 524288, check and weigh: 262144) */
+#define PERISTHOX_STACK 458752      /* bytes of stack that are enough for every call (check and weigh: 262144) */
 
 /* The weight "nothing" in a sheet and as a tree's weight. It is below every number. */
 #define PERISTHOX_NOTHING INT64_MIN
