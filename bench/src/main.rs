@@ -1,5 +1,6 @@
 //! Times the library's C calls against the independent second program, in one run and on the same
-//! inputs, and measures the stack that a call uses. It is a benchmark and judges nothing.
+//! inputs, measures the stack that a call uses, and shows how the time grows with the input. It is a
+//! benchmark and judges nothing.
 //!
 //!     bench [RUNS]
 //!
@@ -25,5 +26,7 @@ fn main() -> ExitCode {
     timing::report(&cases, runs);
     println!();
     stack::report(&cases);
+    println!();
+    timing::report_growth(&cases::growth::all(), runs);
     ExitCode::SUCCESS
 }

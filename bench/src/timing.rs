@@ -2,6 +2,7 @@
 
 use std::time::{Duration, Instant};
 
+use crate::cases::growth::Row;
 use crate::cases::Case;
 
 /// A single timing lasts at least this long, so that the clock's own cost does not count.
@@ -32,6 +33,26 @@ pub fn report(cases: &[Case], runs: usize) {
             plain.median / 1e3,
             library.least / plain.least,
             library.median / plain.median
+        );
+    }
+}
+
+pub fn report_growth(rows: &[Row], runs: usize) {
+    println!("Growth: microseconds a call, least of {runs} timings of each side in turn.");
+    println!(
+        "{:<8} {:<9} {:<42} {:>9} {:>9} {:>6}",
+        "call", "direction", "input", "library", "plain", "ratio"
+    );
+    for Row { direction, case } in rows {
+        let (library, plain) = time(case, runs);
+        println!(
+            "{:<8} {:<9} {:<42} {:>9.2} {:>9.2} {:>6.2}",
+            case.call,
+            direction,
+            case.input,
+            library.least / 1e3,
+            plain.least / 1e3,
+            library.least / plain.least
         );
     }
 }

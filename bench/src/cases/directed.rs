@@ -19,9 +19,14 @@ use super::{Case, SEED};
 type Library = fn(u32, &[u8], &mut [u8]);
 type Plain = fn(Direction, &[u8], &mut [u8]);
 
-const CALLS: [(&str, Library, Plain); 4] = [
-    ("blocks", library_blocks, plain_blocks),
-    ("collapse", library_collapse, plain_collapse),
+/// A call's name, the library's side and the plain side.
+pub type Call = (&'static str, Library, Plain);
+
+pub const BLOCKS: Call = ("blocks", library_blocks, plain_blocks);
+pub const COLLAPSE: Call = ("collapse", library_collapse, plain_collapse);
+const CALLS: [Call; 4] = [
+    BLOCKS,
+    COLLAPSE,
     (
         "three",
         |direction, table, room| {
@@ -46,19 +51,14 @@ const CALLS: [(&str, Library, Plain); 4] = [
 
 pub fn all() -> Vec<Case> {
     let inputs = inputs();
-    let of_call = |&(call, library, plain): &(&'static str, Library, Plain)| {
-        inputs
-            .iter()
-            .map(move |input| case(call, library, plain, input))
-            .collect::<Vec<Case>>()
-    };
-    CALLS.iter().flat_map(of_call).collect()
+    let of_call = |call| inputs.iter().map(move |input| case(call, input));
+    CALLS.into_iter().flat_map(of_call).collect()
 }
 
-struct Input {
-    name: &'static str,
-    direction: Direction,
-    table: Vec<u8>,
+pub struct Input {
+    pub name: String,
+    pub direction: Direction,
+    pub table: Vec<u8>,
 }
 
 /// The families of the issue on blocks, each in both directions.
@@ -91,9 +91,9 @@ fn inputs() -> Vec<Input> {
     ]
 }
 
-fn input(name: &'static str, direction: Direction, table: &Table) -> Input {
+fn input(name: &str, direction: Direction, table: &Table) -> Input {
     Input {
-        name,
+        name: name.to_string(),
         direction,
         table: table::write(table),
     }
@@ -110,14 +110,14 @@ fn ten_states(random: &mut Random) -> Table {
     make::table(random, &shape)
 }
 
-fn case(call: &'static str, library: Library, plain: Plain, input: &Input) -> Case {
+pub fn case((call, library, plain): Call, input: &Input) -> Case {
     let direction = input.direction;
     let (table, same_table) = (input.table.clone(), input.table.clone());
     let room = || RefCell::new(vec![0; LONGEST_TABLE]);
     let (library_room, plain_room) = (room(), room());
     Case {
         call,
-        input: input.name,
+        input: input.name.clone(),
         bytes: table.len(),
         library: Box::new(move || {
             let room = &mut library_room.borrow_mut();

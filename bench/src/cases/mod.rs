@@ -2,6 +2,7 @@
 
 #[cfg(feature = "shrink")]
 mod directed;
+pub mod growth;
 #[cfg(feature = "weigh")]
 mod weigh;
 
@@ -16,7 +17,7 @@ const SEED: u64 = 20_260_101;
 
 pub struct Case {
     pub call: &'static str,
-    pub input: &'static str,
+    pub input: String,
     pub bytes: usize,
     /// The library's call.
     pub library: Box<dyn Fn()>,
@@ -38,13 +39,13 @@ pub fn all() -> Vec<Case> {
 fn checks() -> Vec<Case> {
     tables()
         .into_iter()
-        .map(|(input, table)| check(input, table))
+        .map(|(input, table)| check(input.to_string(), table))
         .collect()
 }
 
 /// Checking: the library's `check` against the second program's reader, which keeps the table that
 /// it has read (in memory that it asks for and gives back each time).
-fn check(input: &'static str, table: Vec<u8>) -> Case {
+fn check(input: String, table: Vec<u8>) -> Case {
     let same_table = table.clone();
     Case {
         call: "check",

@@ -65,7 +65,7 @@ fn case(random: &mut Random, input: &'static str, arithmetic: u8, ranks: &[u8]) 
     let (same_table, same_tree) = (table.clone(), tree.clone());
     Case {
         call: "weigh",
-        input,
+        input: input.to_string(),
         bytes: table.len(),
         library: Box::new(move || {
             let sheet = &mut library_sheet.borrow_mut();

@@ -46,24 +46,42 @@ pub fn some(random: &mut Random, direction: Direction) -> Planted {
 
 /// A table with 256 states, as many transitions as there may be, all of rank 4, and many merges.
 pub fn many_merges(random: &mut Random, direction: Direction) -> Planted {
+    let (states, transitions) = (MOST_STATES as usize, MOST_TRANSITIONS as usize);
+    merges_within(random, direction, states, transitions)
+}
+
+/// A table with so many states, no more than so many transitions and hardly fewer, all of rank 4,
+/// and many merges. There are at least 4 states.
+pub fn merges_within(
+    random: &mut Random,
+    direction: Direction,
+    states: usize,
+    transitions: usize,
+) -> Planted {
     // Forward every filling of the child blocks needs its transitions, so the blocks are smaller.
-    let blocks = match direction {
-        Direction::Backward => 64,
-        Direction::Forward => 128,
+    let states_of_a_block = match direction {
+        Direction::Backward => 4,
+        Direction::Forward => 2,
     };
     let plan = Plan {
         direction,
         arithmetic: 0,
-        states: MOST_STATES as usize,
-        blocks,
+        states,
+        blocks: states / states_of_a_block,
         ranks: vec![MOST_RANK as u8; 8],
-        choices: 1_000,
+        // A choice becomes more than four transitions on average, so there are choices to spare.
+        choices: transitions / 4,
     };
-    planted(random, &plan)
+    planted_within(random, &plan, transitions)
 }
 
 /// A table of this plan.
 pub fn planted(random: &mut Random, plan: &Plan) -> Planted {
+    planted_within(random, plan, MOST_TRANSITIONS as usize)
+}
+
+/// A table of this plan with no more than so many transitions.
+fn planted_within(random: &mut Random, plan: &Plan, most: usize) -> Planted {
     let blocks = random_blocks(random, plan);
     let members: Vec<Vec<u8>> = (0..plan.blocks)
         .map(|block| {
@@ -75,7 +93,7 @@ pub fn planted(random: &mut Random, plan: &Plan) -> Planted {
         arithmetic: plan.arithmetic,
         ranks: plan.ranks.clone(),
         finals: finals(random, plan, &blocks),
-        transitions: transitions(random, plan, &members),
+        transitions: transitions(random, plan, &members, most),
     };
     Planted { table, blocks }
 }
@@ -113,21 +131,29 @@ fn finals(random: &mut Random, plan: &Plan, blocks: &[u8]) -> Vec<u32> {
 /// A choice of a symbol, child blocks and a target block.
 type Choice = (u8, Vec<usize>, usize);
 
-fn transitions(random: &mut Random, plan: &Plan, members: &[Vec<u8>]) -> Vec<Transition> {
+fn transitions(
+    random: &mut Random,
+    plan: &Plan,
+    members: &[Vec<u8>],
+    most: usize,
+) -> Vec<Transition> {
     let mut choices = BTreeMap::new();
     for _ in 0..plan.choices {
         choices.insert(draw_choice(random, plan), draw_sum(random, plan));
     }
-    unfolded(random, plan.direction, plan.arithmetic, members, choices)
+    let (direction, arithmetic) = (plan.direction, plan.arithmetic);
+    unfolded(random, direction, arithmetic, members, choices, most)
 }
 
-/// Transitions that collapse to these choices with these sums.
+/// Transitions that collapse to these choices with these sums. A choice that would make them more
+/// than `most` is left out.
 fn unfolded(
     random: &mut Random,
     direction: Direction,
     arithmetic: u8,
     members: &[Vec<u8>],
     choices: BTreeMap<Choice, u32>,
+    most: usize,
 ) -> Vec<Transition> {
     let unfold = match direction {
         Direction::Backward => into_each_target,
@@ -136,7 +162,7 @@ fn unfolded(
     let mut by_key = BTreeMap::new();
     for (choice, sum) in choices {
         let added = unfold(random, arithmetic, members, &choice, sum);
-        if by_key.len() + added.len() <= MOST_TRANSITIONS as usize {
+        if by_key.len() + added.len() <= most {
             by_key.extend(
                 added
                     .into_iter()
@@ -303,11 +329,12 @@ fn parted(random: &mut Random, table: &Table, direction: Direction) -> Table {
     };
     finals[0] = shared[0];
     finals.push(shared[1]);
+    let (arithmetic, most) = (table.arithmetic, MOST_TRANSITIONS as usize);
     Table {
-        arithmetic: table.arithmetic,
+        arithmetic,
         ranks: table.ranks.clone(),
         finals,
-        transitions: unfolded(random, direction, table.arithmetic, &members, choices),
+        transitions: unfolded(random, direction, arithmetic, &members, choices, most),
     }
 }
 
