@@ -7,7 +7,7 @@ use lib.Dec.{eqb}
 use Rattle.model.specs.Table.{Transition, Each}
 use Rattle.theory.specs.Blocks.{member}
 use Rattle.theory.specs.Direction.{Direction, backward, forward}
-use Rattle.theory.specs.Each.{map-each}
+use Rattle.model.specs.Each.{map-each}
 use Rattle.theory.specs.Entry.{keyAt, Between}
 use Rattle.theory.specs.Equality.{sameList}
 use Rattle.adding.specs.Keys.{pack}

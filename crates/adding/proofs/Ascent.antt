@@ -7,10 +7,11 @@ use native.Mathlib.Omega.{arith}
 use lib.Dec.{T, ltb, ltb→lt, lt→ltb}
 use lib.ListN.{length, getD, length-append}
 use Rattle.model.specs.Table.{Transition, Each, key, lower}
-use Rattle.theory.specs.Each.{each-append}
+use Rattle.model.specs.Each.{each-append}
 use Rattle.theory.specs.Equality.{numbers, same-true, same-false}
 use Rattle.theory.specs.Order.{ltb-total}
-use Rattle.adding.specs.Keys.{packed, pack}
+use Rattle.profiles.specs.Packing.{packed}
+use Rattle.adding.specs.Keys.{pack}
 use Rattle.adding.proofs.Packing.{Packable, pack-symbol}
 
 lower-first : (x y : ℕ) (xs ys : List ℕ) → x < y → T (lower (x ∷ xs) (y ∷ ys))

@@ -8,9 +8,8 @@ use native.Mathlib.Numerals.{add-one}
 use lib.Dec.{eqb}
 use lib.ListN.{length, getD, take, drop, length-drop, drop-of-length-le}
 use lib.Seq.{drop-cons, getD-take, getD-drop, length-take-le}
-use Rattle.adding.specs.Keys.{packed}
+use Rattle.profiles.specs.Packing.{packed, room, room-next}
 use Rattle.adding.specs.Named.{allNamed}
-use Rattle.adding.proofs.Packing.{room, room-next}
 
 -- the children of transition j
 abbrev pub kidsOf : List ℕ → ℕ → ℕ → List ℕ

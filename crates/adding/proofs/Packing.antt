@@ -1,42 +1,13 @@
 -- Keys packed into one number, and taken apart again.
-use Prim.Native.Nat.{ℕ, zero, suc, _+_, _*_, _/_, _%_, _≤_, _<_}
-use mathlib.Core.Path.{_≡_, refl, sym, ap, _∙_}
+use Prim.Native.Nat.{ℕ, suc, _+_, _*_, _/_, _%_, _≤_, _<_}
+use mathlib.Core.Path.{_≡_, sym, ap, _∙_}
 use mathlib.Core.List.{List, [], _∷_, _++_, append-assoc, append-nil}
 use native.Mathlib.Omega.{arith}
 use native.Mathlib.Nat.{add-zero, zero-add}
-use native.Mathlib.Numerals.{add-one}
 use lib.ListN.{length, getD}
 use Rattle.model.specs.Table.{Transition, Each, key}
-use Rattle.adding.specs.Keys.{packed, pack, digits, transitionOf}
-
--- what k numbers of eight bits hold
-abbrev pub room : ℕ → ℕ
-room zero = 1
-room (suc k) = room k * 256
-
-pub room-next : (n k x : ℕ) → n < room k → x < 256 → n * 256 + x < room (k + 1)
-room-next n k x h l = rw (add-one k) (omega arith)
-
-pub room-few : (k : ℕ) → k ≤ 4 → room k ≤ 4294967296
-room-few zero h = omega arith
-room-few (suc zero) h = omega arith
-room-few (suc (suc zero)) h = omega arith
-room-few (suc (suc (suc zero))) h = omega arith
-room-few (suc (suc (suc (suc zero)))) h = omega arith
-room-few (suc (suc (suc (suc (suc k))))) h = absurd (omega arith)
-
-packed-room : (n k : ℕ) (xs : List ℕ) → n < room k → Each (λ x. x < 256) xs → packed n xs < room (k + length xs)
-packed-room n k [] h b = rw (add-zero k) h
-packed-room n k (x ∷ xs) h b =
-    let e : k + suc (length xs) ≡ k + 1 + length xs = omega arith in
-    rw e (packed-room (n * 256 + x) (k + 1) xs (room-next n k x h (b .0)) (b .1))
-
-packed-small : (xs : List ℕ) → Each (λ x. x < 256) xs → length xs ≤ 4 → packed 0 xs < 4294967296
-packed-small xs b few = omega (arith, packed-room 0 0 xs (omega arith) b, room-few (length xs) few, ap room (zero-add (length xs)))
-
-pub packed-last : (n : ℕ) (xs : List ℕ) (x : ℕ) → packed n (xs ++ (x ∷ [])) ≡ packed n xs * 256 + x
-packed-last n [] x = refl
-packed-last n (y ∷ xs) x = packed-last (n * 256 + y) xs x
+use Rattle.profiles.specs.Packing.{packed, packed-append, packed-few}
+use Rattle.adding.specs.Keys.{pack, digits, transitionOf}
 
 -- what stands above four numbers of eight bits can stand right before fewer
 packed-above : (σ : ℕ) (xs : List ℕ) → length xs ≤ 4 → (m : ℕ) × (σ * 4294967296 + packed 0 xs ≡ packed m xs)
@@ -74,10 +45,10 @@ module _ (ranks : List ℕ) (t : Transition) (fits : Packable ranks t) where
   few-children = omega (arith, fits .children-many, fits .rank-small)
 
   pack-parts : pack (key t) ≡ t .symbol * 1099511627776 + (packed 0 (t .children) * 256 + t .target)
-  pack-parts = ap (λ (n : ℕ). t .symbol * 1099511627776 + n) (packed-last 0 (t .children) (t .target))
+  pack-parts = ap (λ (n : ℕ). t .symbol * 1099511627776 + n) (packed-append 0 (t .children) (t .target ∷ []))
 
   pub pack-symbol : pack (key t) / 1099511627776 ≡ t .symbol
-  pack-symbol = omega (arith, pack-parts, packed-small (t .children) (fits .children-bytes) few-children, fits .target-byte)
+  pack-symbol = omega (arith, pack-parts, packed-few 4 (t .children) (fits .children-bytes) few-children, fits .target-byte)
 
   pack-children : pack (key t) / 256 ≡ t .symbol * 4294967296 + packed 0 (t .children)
   pack-children = omega (arith, pack-parts, fits .target-byte)

@@ -7,7 +7,7 @@ use mathlib.Core.List.{List, [], _∷_, map, List·Memᴰ}
 use native.Mathlib.Omega.{arith}
 use lib.Dec.{T, eqb, eqb→eq, ltb→lt}
 use Rattle.model.specs.Table.{Table, Transition, Each, key, lower, Ascending}
-use Rattle.theory.specs.Each.{each-members, each-member}
+use Rattle.model.specs.Each.{each-members, each-member}
 use Rattle.theory.specs.Equality.{numbers, lists, sameList, equal-same, test-iff}
 use Rattle.theory.specs.Semiring.{Semiring}
 use Rattle.theory.specs.Sum.{only, sum-same, sum-each, sum-map, sum-met, only-zero, zero-plus}

@@ -9,7 +9,7 @@ use lib.Dec.{eqb}
 use lib.ListN.{length, getD, length-map}
 use lib.Seq.{getD-take, length-take-le}
 use Rattle.model.specs.Table.{Table, Transition, Each, Proper, ProperTransition}
-use Rattle.theory.specs.Each.{each-implies, each-map, each-getD}
+use Rattle.model.specs.Each.{each-implies, each-map, each-getD}
 use Rattle.theory.specs.Sum.{only, sum-each}
 use Rattle.theory.specs.Below.{below, each-below}
 use Rattle.theory.specs.Arithmetic.{arithmetic, meaning, codeOf, codeOf-meaning}

@@ -4,15 +4,11 @@ use mathlib.Core.List.{List, [], _∷_, _++_}
 use lib.ListN.{getD}
 use Rattle.model.specs.Table.{Transition}
 use Rattle.profiles.specs.Entries.{Entry}
+use Rattle.profiles.specs.Packing.{packed}
 
 -- the numbers of a list of 256 have eight bits
 abbrev pub Bytes : List ℕ → Type 0
 Bytes ns = (i : ℕ) → i < 256 → getD ns i 0 < 256
-
--- the numbers xs behind n, eight bits each
-abbrev pub packed : ℕ → List ℕ → ℕ
-packed n [] = n
-packed n (x ∷ xs) = packed (n * 256 + x) xs
 
 -- a key as one number: the symbol stands above 40 bits for the children's blocks and the target's
 abbrev pub pack : List ℕ → ℕ

@@ -6,6 +6,7 @@ use Rattle.answers.specs.declared.Refusal.the-variants.{TableEnds, BadNu
 use Rattle.answers.specs.declared.Answer.{Answer}
 use Rattle.answers.specs.declared.Answer.the-variants.{Done, Refused}
 
+-- the table's column "Code"
 abbrev pub codeOf : Refusal → ℕ
 codeOf (TableEnds at) = 1
 codeOf (BadNumber at) = 2
@@ -21,6 +22,7 @@ codeOf TreeTooLong = 11
 codeOf (RoomTooShort needed) = 12
 codeOf NoDirection = 13
 
+-- the table's column "Figure": a place, the room needed, or the number that the table gives
 abbrev pub figureOf : Refusal → ℕ
 figureOf (TableEnds at) = at
 figureOf (BadNumber at) = at

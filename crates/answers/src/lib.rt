@@ -1,8 +1,8 @@
 // What a call answers: done with a figure, or refused with one of the numbers of document 01 and its figure.
 
 ghost use mathlib.Core.Path.{_≡_};
-ghost use Prim.Native.Nat.{ℕ, _+_, _*_, _<_, _^_};
-ghost use Rattle.answers.specs.Numbers.{codeOf, figureOf, answerCode, answerFigure, packed};
+ghost use Prim.Native.Nat.{_+_, _*_, _<_, _^_};
+ghost use Rattle.answers.specs.Numbers.{codeOf, figureOf, answerFigure, packed};
 
 // Why an input is refused, one case for each line of 01's table, with its figure.
 pub enum Refusal {

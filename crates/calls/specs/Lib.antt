@@ -1,3 +1,4 @@
 pub mod Answers
 pub mod Picking
 pub mod Wrong
+pub mod Readings

@@ -1,22 +1,24 @@
 -- Programs that the promises rule out, each by its answer on a small table. (Others are must-fail edits.) Document 01's "Run only"
 -- examples that are refused are here too, as readings.
-use Prim.Native.Nat.{ℕ}
+use Prim.Native.Nat.{ℕ, _≤_, _<_}
 use mathlib.Core.Path.{_≡_, refl, sym, ap, _∙_}
 use mathlib.Core.List.{List, [], _∷_, _++_}
 use native.Mathlib.Omega.{arith}
-use lib.ListN.{replicate}
+use lib.ListN.{length, drop, getD, replicate}
+use borrow.Author.Tests.{le-leb}
 use Rattle.answers.specs.declared.Answer.{Answer}
 use Rattle.answers.specs.declared.Answer.the-variants.{Done, Refused}
 use Rattle.answers.specs.declared.Refusal.{Refusal}
 use Rattle.answers.specs.declared.Refusal.the-variants.{TableEnds, NotInTable, ZeroCode, NotAbove, TableGoesOn}
 use Rattle.numbers.specs.Written.{groups}
 use Rattle.numbers.specs.Read.{numberAt, moreFrom}
-use Rattle.format.specs.Read.{refused, many, transitionAt, transitionsAt, tableRead}
-use Rattle.calls.specs.Answers.{checked, Checks, rewrittenRoom, Rewrites}
-
--- document 01's table A
-abbrev pub bytesA : List ℕ
-bytesA = 0 ∷ 3 ∷ 2 ∷ 0 ∷ 1 ∷ 0 ∷ 0 ∷ 1 ∷ 4 ∷ 0 ∷ 0 ∷ 3 ∷ 0 ∷ 1 ∷ 3 ∷ 1 ∷ 0 ∷ 2 ∷ 5 ∷ 1 ∷ 1 ∷ 2 ∷ 7 ∷ []
+use Rattle.model.specs.Table.{Table}
+use Rattle.format.specs.Examples.{bytesA}
+use Rattle.format.specs.Read.{found, refused, many, transitionAt, transitionsAt, tableRead}
+use Rattle.roundtrip.specs.Tables.{table-sound}
+use Rattle.calls.specs.declared.Choice.the-variants.{First, Second, RefusedSecond}
+use Rattle.calls.specs.Answers.{checked, Checks, rewrittenAnswer, rewrittenRoom, Rewrites}
+use Rattle.calls.specs.Picking.{picked, pickCode}
 
 a-checked : checked (tableRead bytesA) ≡ Done 3
 unfolding tableRead many transitionsAt transitionAt numberAt moreFrom
@@ -39,6 +41,35 @@ leaves-room p =
     let same : replicate 23 0 ≡ bytesA = p .room-is ∙ a-written in
     let z : _≡_ {A = ℕ} 0 3 = ap (λ (l : List ℕ). lib.ListN.getD l 1 0) same in
     omega arith
+
+a-rewritten : rewrittenAnswer (tableRead bytesA) (replicate 23 0) ≡ Done 23
+unfolding tableRead many transitionsAt transitionAt numberAt moreFrom groups
+a-rewritten = refl
+
+-- one that refuses all tables
+pub rewrite-refuses : (refusal : Refusal) (room : List ℕ) → Rewrites bytesA (replicate 23 0) (Refused refusal) room → ⊥
+rewrite-refuses refusal room p = never-both 23 refusal (sym a-rewritten ∙ sym (p .answer-is))
+
+-- a table read and written again gives its own bytes
+pub rewrite-own-bytes : (table : List ℕ) → ((i : ℕ) → getD table i 0 < 256) → (X : Table) (end : ℕ) → tableRead table ≡ found X end
+    → (before : List ℕ) → length table ≤ length before → (a : Answer) (room : List ℕ) → Rewrites table before a room
+    → (a ≡ Done (length table)) × (room ≡ table ++ drop (length table) before)
+rewrite-own-bytes table bytes X end e before long a room p =
+    let form = table-sound table bytes X end e .1 in
+    (p .answer-is ∙ rw (e, ← form, le-leb), p .room-is ∙ rw (e, ← form, le-leb))
+
+-- one that always picks the first, one that prefers the second, and one that forgets the 100: A and A without its last transition, A and no bytes
+pub pick-fewer : picked bytesA (0 ∷ 3 ∷ 2 ∷ 0 ∷ 1 ∷ 0 ∷ 0 ∷ 1 ∷ 3 ∷ 0 ∷ 0 ∷ 3 ∷ 0 ∷ 1 ∷ 3 ∷ 1 ∷ 0 ∷ 2 ∷ 5 ∷ []) ≡ Second
+unfolding tableRead many transitionsAt transitionAt numberAt moreFrom
+pick-fewer = refl
+
+pub pick-tie : picked bytesA bytesA ≡ First
+unfolding tableRead many transitionsAt transitionAt numberAt moreFrom
+pick-tie = refl
+
+pub pick-refused : (picked bytesA [] ≡ RefusedSecond (TableEnds 0)) × (pickCode (picked bytesA []) ≡ 101)
+unfolding tableRead many transitionsAt transitionAt numberAt moreFrom
+pick-refused = (refl, refl)
 
 -- one whose refusal touches a byte: a refused table's room is as it was
 pub refusal-untouched : (table before : List ℕ) (refusal : Refusal) (a : Answer) (room : List ℕ) → tableRead table ≡ refused refusal

@@ -3,7 +3,6 @@
 use answers::Answer;
 use answers::Refusal;
 ghost use mathlib.Core.Path.{_≡_};
-ghost use Prim.Native.Nat.{ℕ};
 ghost use Rattle.format.specs.Read.{tableRead};
 ghost use Rattle.calls.specs.Answers.{Checks, Rewrites};
 ghost use Rattle.calls.specs.Picking.{sizeOf, picked, pieceOf, pickedPiece, PickAnswers};

@@ -22,7 +22,7 @@ use Rattle.tables.specs.Record.{tableOf}
 use Rattle.tables.specs.declared.TableRecord.{TableRecord}
 use Rattle.writer.specs.Writable.{Writable}
 use Rattle.calls.specs.Answers.{fits, filled}
-use Rattle.calls.proofs.Readings.{Taken, taken-proper}
+use Rattle.calls.specs.Readings.{Taken, taken-proper}
 use Rattle.adding.specs.Collapsing.{Collapsible, CollapsedTo}
 use Rattle.collapse.specs.Promises.{blocksAnswer, BlocksPut, BlocksFrom, Blocks, written, refusedBy, TablePut, PutFrom}
 use Rattle.collapse.specs.Readable.{Readable}

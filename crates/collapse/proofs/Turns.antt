@@ -1,11 +1,11 @@
 -- The turns of a shrink: whatever the shrink from here on gives, the shrink from the start gives.
-use Prim.Native.Nat.{ℕ, zero, suc, _-_, _≤_, _<_}
-use mathlib.Core.Path.{_≡_, refl, sym, ap, _∙_, subst}
+use Prim.Native.Nat.{ℕ, zero, suc, _-_, _≤_}
+use mathlib.Core.Path.{_≡_, refl}
 use native.Mathlib.Omega.{arith}
-use Rattle.model.specs.Table.{Table, Proper}
-use Rattle.theory.specs.Direction.{Direction, direction}
+use Rattle.model.specs.Table.{Table}
+use Rattle.theory.specs.Direction.{Direction, direction, other}
 use Rattle.theory.specs.Collapse.{CollapsedByCoarsest}
-use Rattle.theory.specs.Shrink.{Shrinks, last, more, other, Ends}
+use Rattle.theory.specs.Shrink.{Shrinks, last, more, Ends}
 
 -- the other side of a direction's number
 pub other-side : (d : ℕ) → d ≤ 1 → direction (1 - d) ≡ other (direction d)

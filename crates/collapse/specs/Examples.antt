@@ -20,6 +20,7 @@ use Rattle.theory.specs.Blocks.{blockOf, blockCount}
 use Rattle.theory.specs.Direction.{Direction, backward, forward, CoarsestBlocks, coarsestBlocks-unique}
 use Rattle.theory.specs.Collapse.{CollapsedByCoarsest, collapsedByCoarsest-unique}
 use Rattle.theory.specs.Examples.{tableA, tableA-collapsed, tableB, tableC, tableD, tableE, tableF, g·a, examples as of-tables}
+use Rattle.format.specs.Examples.{bytesA}
 use Rattle.format.specs.Read.{found, many, transitionAt, transitionsAt, tableRead}
 use Rattle.format.specs.Written.{bytesOf}
 use Rattle.collapse.specs.Promises.{BlocksPut, Blocks, TablePut, Collapses}
@@ -48,9 +49,6 @@ pub record OfTable (table : List ℕ) (P : Table → Type 0) : Type 0 where
 -- g(a) weighs so much in the table with these bytes
 abbrev pub g·a-weighs : ℕ → List ℕ → Type 0
 g·a-weighs w table = OfTable table (λ X. value X g·a ≡ number (pos w))
-
-abbrev pub bytesA : List ℕ
-bytesA = 0 ∷ 3 ∷ 2 ∷ 0 ∷ 1 ∷ 0 ∷ 0 ∷ 1 ∷ 4 ∷ 0 ∷ 0 ∷ 3 ∷ 0 ∷ 1 ∷ 3 ∷ 1 ∷ 0 ∷ 2 ∷ 5 ∷ 1 ∷ 1 ∷ 2 ∷ 7 ∷ []
 
 -- A collapsed backward
 abbrev pub bytesP2 : List ℕ

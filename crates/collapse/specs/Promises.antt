@@ -1,16 +1,15 @@
 -- The promises of blocks, collapse and shrink (document 01, "Numbers that come back").
-use Prim.Native.Nat.{ℕ}
+use Prim.Native.Nat.{ℕ, _<_}
 use mathlib.Core.Path.{_≡_, refl, sym, ap, _∙_}
 use mathlib.Core.Bool.{Bool, true, false}
 use mathlib.Core.List.{List}
 use lib.ListN.{length, getD}
 use lib.Dec.{leb}
-use Prim.Native.Nat.{_<_}
 use Rattle.answers.specs.declared.Answer.{Answer}
 use Rattle.answers.specs.declared.Answer.the-variants.{Done, Refused}
 use Rattle.answers.specs.declared.Refusal.{Refusal}
 use Rattle.answers.specs.declared.Refusal.the-variants.{RoomTooShort, NoDirection}
-use Rattle.model.specs.Table.{Table, Proper}
+use Rattle.model.specs.Table.{Table}
 use Rattle.theory.specs.Blocks.{blockOf, blockCount}
 use Rattle.theory.specs.Direction.{Direction, direction, CoarsestBlocks, coarsestBlocks-unique}
 use Rattle.theory.specs.Collapse.{CollapsedByCoarsest, collapsedByCoarsest-unique}
@@ -87,29 +86,25 @@ blocks-decided d table before a b r s = go (leb d 1) (tableRead table)
     go true (refused refusal) p q = (p .0 ∙ sym (q .0), p .1 ∙ sym (q .1))
     go true (found X end) p q = blocks-put-decided (direction d) X before a b r s p q
 
--- a relation that names one table for each table within document 01's bounds
-abbrev pub Single : (Table → Table → Type 0) → Type 0
-Single R = (X Y Z : Table) → Proper X → R X Y → R X Z → Y ≡ Z
-
-put-decided : (R : Table → Table → Type 0) → Single R → (known : Bool) (table before : List ℕ) → ((i : ℕ) → getD table i 0 < 256)
+-- R names one table for the table that the bytes are
+put-decided : (R : Table → Table → Type 0) (known : Bool) (table before : List ℕ) → ((X Y Z : Table) (end : ℕ) → tableRead table ≡ found X end → R X Y → R X Z → Y ≡ Z)
     → (a b : Counted) (r s : List ℕ) → PutFrom known (tableRead table) R before a r → PutFrom known (tableRead table) R before b s → (a ≡ b) × (r ≡ s)
-put-decided R single known table before bytes a b r s = go known (tableRead table) refl
+put-decided R known table before single a b r s = go known (tableRead table) refl
   where
     go : (known : Bool) (x : Found Table) → tableRead table ≡ x → PutFrom known x R before a r → PutFrom known x R before b s → (a ≡ b) × (r ≡ s)
     go false x e p q = (p .0 ∙ sym (q .0), p .1 ∙ sym (q .1))
     go true (refused refusal) e p q = (p .0 ∙ sym (q .0), p .1 ∙ sym (q .1))
     go true (found X end) e p q =
-        let same = single X (p .table) (q .table) (table-sound table bytes X end e .0) (p .named) (q .named) in (
+        let same = single X (p .table) (q .table) end e (p .named) (q .named) in (
           p .answer-is ∙ ap (λ (Y : Table). written (fits (bytesOf Y) before) Y) same ∙ sym (q .answer-is),
           p .room-is ∙ ap (λ (Y : Table). filled (fits (bytesOf Y) before) (bytesOf Y) before) same ∙ sym (q .room-is),
         )
 
-pub collapse-decided : (d : ℕ) (table before : List ℕ) → ((i : ℕ) → getD table i 0 < 256) → (a b : Counted) (r s : List ℕ)
-    → Collapses d table before a r → Collapses d table before b s → (a ≡ b) × (r ≡ s)
-collapse-decided d table before bytes a b r s =
-    put-decided (CollapsedByCoarsest (direction d)) (λ X Y Z _ p q. collapsedByCoarsest-unique (direction d) X Y Z p q) (leb d 1) table before bytes a b r s
+pub collapse-decided : (d : ℕ) (table before : List ℕ) (a b : Counted) (r s : List ℕ) → Collapses d table before a r → Collapses d table before b s → (a ≡ b) × (r ≡ s)
+collapse-decided d table before a b r s =
+    put-decided (CollapsedByCoarsest (direction d)) (leb d 1) table before (λ X Y Z end e p q. collapsedByCoarsest-unique (direction d) X Y Z p q) a b r s
 
 pub shrink-decided : (d : ℕ) (table before : List ℕ) → ((i : ℕ) → getD table i 0 < 256) → (a b : Counted) (r s : List ℕ)
     → ShrinksTo d table before a r → ShrinksTo d table before b s → (a ≡ b) × (r ≡ s)
 shrink-decided d table before bytes a b r s =
-    put-decided (Shrinks (direction d)) (λ X Y Z proper p q. shrinks-unique proper p q) (leb d 1) table before bytes a b r s
+    put-decided (Shrinks (direction d)) (leb d 1) table before (λ X Y Z end e p q. shrinks-unique (table-sound table bytes X end e .0) p q) a b r s

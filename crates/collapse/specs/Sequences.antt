@@ -1,13 +1,14 @@
 -- Demand 3, from the bytes of the first table to the bytes of the last: no sequence of collapses in which none is refused changes the
 -- weight of any tree, however large; and the last collapse, made again at once with room for it, returns the same bytes.
-use Prim.Native.Nat.{ℕ, _<_}
-use mathlib.Core.Path.{_≡_, sym, ap, _∙_, subst}
+use Prim.Native.Nat.{ℕ, _<_, _≤_}
+use mathlib.Core.Path.{_≡_, refl, sym, ap, _∙_, subst}
 use mathlib.Core.Bool.{Bool, true, false}
 use mathlib.Core.List.{List}
 use native.Mathlib.Omega.{arith}
 use lib.ListN.{length, getD, take}
 use lib.Seq.{take-append-seam}
 use lib.Dec.{leb}
+use borrow.Author.Tests.{le-leb}
 use Rattle.answers.specs.declared.Answer.the-variants.{Done}
 use Rattle.model.specs.Table.{Table, Proper}
 use Rattle.model.specs.Tree.{Tree}
@@ -51,6 +52,14 @@ module _ (d : ℕ) (from to : List ℕ) (c : Collapsing d from to) (X : Table) (
     result : Table
     reads : Reads to result
     collapsed : CollapsedByCoarsest (direction d) X result
+
+  -- it was not refused, so its direction is 0 or 1
+  direction-known : leb d 1 ≡ true
+  direction-known = go (leb d 1) (subst (λ (x : Found Table). PutFrom (leb d 1) x (CollapsedByCoarsest (direction d)) (c .room-before) (c .given) (c .room-after)) (reads-found from X r) (c .collapses))
+    where
+      go : (known : Bool) → PutFrom known (found X (length (bytesOf X))) (CollapsedByCoarsest (direction d)) (c .room-before) (c .given) (c .room-after) → known ≡ true
+      go false p = absurd (let e = ap (λ (g : Counted). g .answer) (p .0) in let z : _≡_ {A = ℕ} 0 1 = cc (e, c .done) in omega arith)
+      go true p = refl
 
   put : (known : Bool) → PutFrom known (found X (length (bytesOf X))) (CollapsedByCoarsest (direction d)) (c .room-before) (c .given) (c .room-after)
       → TablePut (CollapsedByCoarsest (direction d) X) (c .room-before) (c .given) (c .room-after)
@@ -110,3 +119,19 @@ module _ (from : List ℕ) (bytes : (i : ℕ) → getD from i 0 < 256) (X : Tabl
       let w = wrote d middle to c (k .last) (k .reads) in
       let w′ = wrote d to again c′ (w .result) (w .reads) in
       w′ .reads .is ∙ ap bytesOf (sequence-again (first .proper) (k .sequence) (direction d) (w .result) (w′ .result) (w .collapsed) (w′ .collapsed)) ∙ sym (w .reads .is)
+
+  -- and it is not refused if there is room for it: it is done with the same length, and the bytes stand at the front of the room.
+  pub same-bytes-with-room : (middle to : List ℕ) (d : ℕ) → Collapsings from middle → Collapsing d middle to
+      → (before : List ℕ) → length to ≤ length before → (c : Counted) (room : List ℕ) → Collapses d to before c room
+      → (c .answer ≡ Done (length to)) × (take (length to) room ≡ to)
+  same-bytes-with-room middle to d s c₀ before long c room p =
+      let k = reach from middle X first s in
+      let w = wrote d middle to c₀ (k .last) (k .reads) in
+      let R = CollapsedByCoarsest (direction d) in
+      let known = subst (λ (b : Bool). PutFrom b (tableRead to) R before c room) (direction-known d middle to c₀ (k .last) (k .reads)) p in
+      let t : TablePut (R (w .result)) before c room = subst (λ (x : Found Table). PutFrom true x R before c room) (reads-found to (w .result) (w .reads)) known in
+      let same : bytesOf (t .table) ≡ to = ap bytesOf (sequence-again (first .proper) (k .sequence) (direction d) (w .result) (t .table) (w .collapsed) (t .named)) ∙ sym (w .reads .is) in
+      let fit : fits (bytesOf (t .table)) before ≡ true = rw same (le-leb (length to) (length before) long) in
+      let answer : c ≡ written true (t .table) = t .answer-is ∙ ap (λ (b : Bool). written b (t .table)) fit in
+      let filling : room ≡ filled true (bytesOf (t .table)) before = t .room-is ∙ ap (λ (b : Bool). filled b (bytesOf (t .table)) before) fit in
+      (ap (λ (g : Counted). g .answer) answer ∙ ap (λ (bs : List ℕ). Done (length bs)) same, rw (filling, same) (take-append-seam to _))

@@ -15,9 +15,9 @@ use Rattle.theory.specs.Collapse.{CollapsedByCoarsest}
 use Rattle.theory.specs.AddingUp.{member-names, AddedUp, sums-by-entries, added-collapsedByCoarsest}
 use Rattle.theory.specs.OwnBlocks.{own-collapsed}
 use Rattle.theory.specs.Shrink.{Shrinks, last, more, shrinks-unique}
-use Rattle.theory.specs.Examples.{tableB, examples as of-tables}
+use Rattle.theory.specs.Examples.{a→, tableB, properB, examples as of-tables}
 use Rattle.format.specs.Read.{found, many, transitionAt, transitionsAt, tableRead}
-use Rattle.roundtrip.specs.Members.{each-at}
+use Rattle.model.specs.Each.{each-getD}
 use Rattle.roundtrip.specs.Tables.{table-sound}
 use Rattle.collapse.specs.Promises.{ShrinksTo}
 use Rattle.collapse.specs.Examples.{BlocksAre, Writes, bytesB, blocks-exactly, table-exactly}
@@ -34,9 +34,6 @@ bytesG-once = 0 ∷ 2 ∷ 1 ∷ 0 ∷ 3 ∷ 3 ∷ 2 ∷ 0 ∷ 0 ∷ 1 ∷ 0 ∷ 
 abbrev pub bytesG-twice : List ℕ
 bytesG-twice = 0 ∷ 1 ∷ 1 ∷ 0 ∷ 3 ∷ 1 ∷ 0 ∷ 0 ∷ 3 ∷ []
 
-abbrev a→ : ℕ → ℕ → Transition
-a→ q c = record { symbol = 0; children = []; target = q; code = c }
-
 abbrev table : ℕ → List ℕ → List Transition → Table
 table n fs ts = record { arithmetic = 0; states = n; ranks = 0 ∷ []; finals = fs; transitions = ts }
 
@@ -50,11 +47,7 @@ abbrev twice : Table
 twice = table 1 (3 ∷ []) (a→ 0 3 ∷ [])
 
 read-proper : (s : List ℕ) → Each (λ b. b < 256) s → (X : Table) (end : ℕ) → tableRead s ≡ found X end → Proper X
-read-proper s small X end e = table-sound s (each-at (λ b. b < 256) s 0 (omega arith) small) X end e .0
-
-properB : Proper tableB
-unfolding tableRead many transitionsAt transitionAt numberAt moreFrom
-properB = read-proper bytesB (omega arith) tableB 23 refl
+read-proper s small X end e = table-sound s (λ i. each-getD (λ b. b < 256) s i 0 small (omega arith)) X end e .0
 
 properG : Proper tableG
 unfolding tableRead many transitionsAt transitionAt numberAt moreFrom

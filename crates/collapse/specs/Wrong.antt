@@ -16,7 +16,8 @@ use Rattle.format.specs.Read.{Found, found, refused, tableRead}
 use Rattle.format.specs.Written.{bytesOf}
 use Rattle.calls.specs.Answers.{fits, filled}
 use Rattle.collapse.specs.Promises.{Blocks, BlocksFrom, BlocksPut, blocksAnswer, PutFrom, written, refusedBy, Collapses, ShrinksTo}
-use Rattle.collapse.specs.Examples.{bytesA, bytesB, bytesC, bytesD, bytesE, examples}
+use Rattle.format.specs.Examples.{bytesA}
+use Rattle.collapse.specs.Examples.{bytesB, bytesC, bytesD, bytesE, examples}
 use Rattle.collapse.specs.Shrinking.{bytesG, bytesG-once, blocks-of-G, shrink-of-G, shrink-of-B}
 use Rattle.collapse.specs.declared.Counted.{Counted}
 

@@ -5,7 +5,7 @@ use answers::Refusal;
 use partition::Partition;
 use tables::TableRecord;
 ghost use mathlib.Core.Path.{_≡_};
-ghost use Prim.Native.Nat.{ℕ, _≤_, _<_};
+ghost use Prim.Native.Nat.{_≤_, _<_};
 ghost use lib.ListN.{length, take};
 ghost use Rattle.format.specs.Written.{bytesOf};
 ghost use Rattle.tables.specs.Record.{tableOf};

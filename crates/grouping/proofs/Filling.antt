@@ -1,24 +1,14 @@
 -- A region of entries, filled from a list of uses.
 use Prim.Native.Nat.{ℕ, zero, suc, _+_, _-_, _≤_, _<_}
 use mathlib.Core.List.{List, _∷_, map}
-use mathlib.Core.Path.{_≡_, refl, sym, ap, ap₂, _∙_, subst}
+use mathlib.Core.Path.{_≡_, sym, ap, ap₂, _∙_, subst}
 use native.Mathlib.Decide.{ℕ-discrete}
 use native.Mathlib.Omega.{arith}
-use lib.ListN.{length, getD, set, length-set}
-use lib.Seq.{getD-set-same, getD-set-other, slice, slice-empty, slice-cons, take-set-le, drop-set-lt}
+use lib.ListN.{length, getD, set}
+use lib.Seq.{getD-set-same, getD-set-other, slice, slice-empty, slice-cons}
 use Rattle.profiles.specs.Entries.{Entry, entryAt, entriesFrom, entries, Region}
-use Rattle.profiles.specs.Kept.{Kept}
+use Rattle.profiles.specs.Kept.{Kept, kept-self, kept-trans, kept-set}
 use Rattle.grouping.specs.Steps.{Filled}
-
-kept-set : (lo hi i v : ℕ) (before after : List ℕ) → Kept lo hi before after → lo ≤ i → i < hi → Kept lo hi before (set after i v)
-kept-set lo hi i v before after k l h = record {
-  long = length-set after i v ∙ k .long;
-  front = take-set-le lo after i v l ∙ k .front;
-  back = drop-set-lt hi after i v h ∙ k .back;
-}
-
-pub kept-nothing : (lo hi : ℕ) (before : List ℕ) → Kept lo hi before before
-kept-nothing lo hi before = record { long = refl; front = refl; back = refl }
 
 module _ (lo hi : ℕ) (entry : ℕ → Entry) (list keys₀ codes₀ : List ℕ) where
   -- the entries from lo to i stand in their places
@@ -34,8 +24,8 @@ module _ (lo hi : ℕ) (entry : ℕ → Entry) (list keys₀ codes₀ : List ℕ
     begin = omega arith;
     some = r .ordered;
     done = λ k l h. absurd (omega arith);
-    keys-kept = kept-nothing lo hi keys₀;
-    codes-kept = kept-nothing lo hi codes₀;
+    keys-kept = kept-self lo hi keys₀;
+    codes-kept = kept-self lo hi codes₀;
   }
 
   module _ (region : Region lo hi keys₀ codes₀) (keys codes : List ℕ) (i : ℕ) (so-far : Filling keys codes i) (more : i < hi) where
@@ -50,8 +40,8 @@ module _ (lo hi : ℕ) (entry : ℕ → Entry) (list keys₀ codes₀ : List ℕ
       begin = omega (arith, so-far .begin);
       some = omega arith;
       done = λ n l h. done n l h (ℕ-discrete n i);
-      keys-kept = kept-set lo hi i key keys₀ keys (so-far .keys-kept) (so-far .begin) more;
-      codes-kept = kept-set lo hi i code codes₀ codes (so-far .codes-kept) (so-far .begin) more;
+      keys-kept = kept-trans (so-far .keys-kept) (kept-set lo hi i key keys (so-far .begin) more);
+      codes-kept = kept-trans (so-far .codes-kept) (kept-set lo hi i code codes (so-far .begin) more);
     }
       where
         here : entryAt (set keys i key) (set codes i code) i ≡ entry (getD list i 0)

@@ -6,12 +6,8 @@ use Rattle.theory.specs.Direction.{Direction, backward, forward}
 use Rattle.theory.specs.Profile.{Key}
 use Rattle.theory.specs.Uses.{others}
 use Rattle.profiles.specs.Entries.{Entry}
+use Rattle.profiles.specs.Packing.{packed}
 use Rattle.uses.specs.Theory.{rowOf}
-
--- the numbers xs behind n, eight bits each
-abbrev pub packed : ℕ → List ℕ → ℕ
-packed n [] = n
-packed n (x ∷ xs) = packed (n * 256 + x) xs
 
 -- the first fixed number, a symbol, stands above 40 bits for the others and the blocks
 abbrev pub packAll : List ℕ → List ℕ → ℕ

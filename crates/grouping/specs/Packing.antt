@@ -1,5 +1,5 @@
 -- Keys packed into one number, digit by digit.
-use Prim.Native.Nat.{ℕ, zero, suc, _+_, _-_, _*_, _≤_, _<_}
+use Prim.Native.Nat.{ℕ, suc, _+_, _-_, _*_, _≤_, _<_}
 use mathlib.Core.Bool.{cond}
 use mathlib.Core.List.{List, [], _∷_}
 use mathlib.Core.Logic.{_≢_}
@@ -13,27 +13,7 @@ use lib.Dec.{eqb}
 use lib.ListN.{length, getD, take, drop, length-take, length-drop, drop-of-length-le}
 use lib.Seq.{drop-cons, getD-take, getD-drop, length-take-le}
 use Rattle.theory.specs.Uses.{others}
-use Rattle.grouping.specs.Keys.{packed}
-
--- what k digits of eight bits hold
-abbrev pub room : ℕ → ℕ
-room zero = 1
-room (suc k) = room k * 256
-
-pub room-next : (n k x : ℕ) → n < room k → x < 256 → n * 256 + x < room (k + 1)
-room-next n k x h l = rw (add-one k) (omega arith)
-
-pub room-more : (n k : ℕ) → n < room k → n < room (k + 1)
-room-more n k h = rw (add-one k) (omega arith)
-
-pub room-few : (k : ℕ) → k ≤ 5 → room k ≤ 1099511627776
-room-few zero h = omega arith
-room-few (suc zero) h = omega arith
-room-few (suc (suc zero)) h = omega arith
-room-few (suc (suc (suc zero))) h = omega arith
-room-few (suc (suc (suc (suc zero)))) h = omega arith
-room-few (suc (suc (suc (suc (suc zero))))) h = omega arith
-room-few (suc (suc (suc (suc (suc (suc k)))))) h = absurd (omega arith)
+use Rattle.profiles.specs.Packing.{packed}
 
 -- the children of a transition from place k on
 pub children-next : (children : List ℕ) (j rank k : ℕ) → length children ≡ 16000 → j < 4000 → rank ≤ 4 → k < rank

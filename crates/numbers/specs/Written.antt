@@ -2,7 +2,6 @@
 use Prim.Native.Nat.{ℕ, zero, suc, _+_, _/_, _%_}
 use mathlib.Core.Bool.{true, false}
 use mathlib.Core.List.{List, [], _∷_, _++_}
-use lib.ListN.{length, take, drop}
 use lib.Dec.{ltb}
 
 -- groups of seven bits, lowest first, the top bit set on every byte but the last; at most g more bytes after this one
@@ -18,7 +17,3 @@ written n = groups 4 n
 abbrev pub writtenAll : List ℕ → List ℕ
 writtenAll [] = []
 writtenAll (n ∷ ns) = written n ++ writtenAll ns
-
--- a room with these bytes laid in from a place on; what stands before and behind stays
-abbrev pub laid : ℕ → List ℕ → List ℕ → List ℕ
-laid at bytes room = take at room ++ (bytes ++ drop (at + length bytes) room)

@@ -2,9 +2,8 @@
 
 use answers::Refusal;
 ghost use mathlib.Core.Path.{_≡_};
-ghost use Prim.Native.Nat.{ℕ, _+_, _≤_, _<_, _^_};
+ghost use Prim.Native.Nat.{_+_, _<_};
 ghost use lib.ListN.{length};
-ghost use Rattle.numbers.specs.Written.{written, laid};
 ghost use Rattle.numbers.specs.Read.{numberAt, below, moreFrom};
 
 // A place in a table.

@@ -12,7 +12,7 @@ use Rattle.trees.specs.Finished.{treeOf}
 use Rattle.trees.specs.Figures.{treeFigure, figure-small}
 use Rattle.trees.specs.declared.TreeRead.{TreeRead}
 use Rattle.trees.specs.declared.TreeRead.the-variants as trees
-use Rattle.weigh.specs.Promise.{weighed, refused as asking, answered, asked, withTree, withTable}
+use Rattle.weigh.specs.Asked.{weighed, refused as asking, answered, asked, withTree, withTable}
 use native.Mathlib.Omega.{arith}
 use lib.ListN.{length, getD}
 use Rattle.answers.specs.Numbers.{answerFigure}

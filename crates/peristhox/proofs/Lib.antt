@@ -1,3 +1,2 @@
 pub mod Figures
-pub mod Lent
 pub mod Shrunken

@@ -3,11 +3,8 @@
 ghost use mathlib.Core.Path.{_≡_};
 ghost use Rattle.format.specs.Read.{tableRead};
 ghost use Rattle.answers.specs.Numbers.{packed};
-ghost use lib.ListN.{length};
 ghost use Rattle.calls.specs.Answers.{checked, rewrittenAnswer, rewrittenRoom};
-ghost use Rattle.weigh.specs.Promise.{asked, answered, filled};
-ghost use Rattle.peristhox.specs.Lent.{weightAfter};
-ghost use Rattle.peristhox.specs.Faces.{BlocksFace, CollapseFace, ShrinkFace};
+ghost use Rattle.peristhox.specs.Faces.{WeighFace, BlocksFace, CollapseFace, ShrinkFace};
 
 // Whether the bytes are a table: done with its number of states.
 #[no_mangle]
@@ -35,9 +32,7 @@ pub extern "C" fn peristhox_weigh(
     sheet: &mut [i64],
     weight: &mut i64,
 ) -> u64
-    ensures { λ r. ⌜ (r ≡ packed (answered (asked (now (table .entry)) (now (tree .entry)) (length (now (sheet .entry)))) .answer))
-        × (now (sheet .exit) ≡ filled (asked (now (table .entry)) (now (tree .entry)) (length (now (sheet .entry)))) (now (sheet .entry)))
-        × (now (weight .exit) ≡ weightAfter (asked (now (table .entry)) (now (tree .entry)) (length (now (sheet .entry)))) (now (weight .entry))) ⌝ }
+    ensures { λ r. ⌜ WeighFace (now (table .entry)) (now (tree .entry)) (now (sheet .entry)) (now (weight .entry)) r (now (sheet .exit)) (now (weight .exit)) ⌝ }
 {
     let weighing = weigh::weigh(table, tree, sheet);
     let answer = weighing.answer;

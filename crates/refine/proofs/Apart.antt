@@ -1,23 +1,13 @@
 -- Packing tells the keys of uses apart.
-use Prim.Native.Nat.{ℕ, suc, _+_, _*_, _≤_, _<_}
+use Prim.Native.Nat.{ℕ, _+_, _*_, _≤_, _<_}
 use mathlib.Core.List.{List, [], _∷_, _++_}
 use mathlib.Core.Path.{_≡_, refl, sym, ap, ap₂, _∙_}
 use native.Mathlib.Omega.{arith}
 use lib.ListN.{length, length-append}
 use Rattle.model.specs.Table.{Each}
 use Rattle.theory.specs.Profile.{Key}
-use Rattle.grouping.specs.Keys.{packed, packAll}
-use Rattle.grouping.specs.Packing.{room, room-few}
-
-packed-append : (n : ℕ) (xs ys : List ℕ) → packed n (xs ++ ys) ≡ packed (packed n xs) ys
-packed-append n [] ys = refl
-packed-append n (x ∷ xs) ys = packed-append (n * 256 + x) xs ys
-
-packed-few : (k n : ℕ) (xs : List ℕ) → n < room k → Each (λ x. x < 256) xs → packed n xs < room (k + length xs)
-packed-few k n [] h m = let e : k + 0 ≡ k = omega arith in rw e h
-packed-few k n (x ∷ xs) h m =
-    let e : k + suc (length xs) ≡ suc k + length xs = omega arith in
-    rw e (packed-few (suc k) (n * 256 + x) xs (omega (arith, m .0)) (m .1))
+use Rattle.profiles.specs.Packing.{packed, packed-append, packed-few}
+use Rattle.grouping.specs.Keys.{packAll}
 
 packed-same : (n m : ℕ) (xs ys : List ℕ) → length xs ≡ length ys → Each (λ x. x < 256) xs → Each (λ x. x < 256) ys → packed n xs ≡ packed m ys → (n ≡ m) × (xs ≡ ys)
 packed-same n m [] [] l h k e = (e, refl)
@@ -52,4 +42,4 @@ pack-same σ τ fs gs Ds Es m k l h lengths e =
     λ i. (symbols i ∷ r .0 i, r .1 i)
   where
     low : (fs Ds : List ℕ) → Each (λ x. x < 256) (fs ++ Ds) → length fs + length Ds ≤ 5 → packed 0 (fs ++ Ds) < 1099511627776
-    low fs Ds m l = omega (arith, packed-few 0 0 (fs ++ Ds) (omega arith) m, room-few (0 + length (fs ++ Ds)) (omega (arith, length-append fs Ds)))
+    low fs Ds m l = packed-few 5 (fs ++ Ds) m (omega (arith, length-append fs Ds))

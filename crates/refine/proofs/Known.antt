@@ -7,11 +7,11 @@ use lib.ListN.{getD, take, drop}
 use lib.Seq.{getD-take, getD-drop}
 use Rattle.model.specs.Table.{ProperTransition, Proper}
 use Rattle.tables.specs.Rows.{columnsOf, rows-length, each-row}
-use Rattle.tables.specs.Record.{columns, rowAt, rowsFrom, tableOf, Holds}
+use Rattle.tables.specs.Record.{rowAt, rowsFrom, tableOf, Holds}
 use Rattle.tables.specs.declared.TableRecord.{TableRecord}
 use Rattle.theory.specs.Arithmetic.{Weight}
 use Rattle.theory.specs.Direction.{Direction}
-use Rattle.theory.specs.Each.{each-at}
+use Rattle.model.specs.Each.{each-at}
 use Rattle.theory.specs.Profile.{Use}
 use Rattle.theory.specs.Uses.{uses}
 use Rattle.profiles.specs.Entries.{Entry}

@@ -9,7 +9,7 @@ use lib.ListN.{length, getD, take}
 use lib.Seq.{getD-take, getD-drop, slice}
 use Rattle.model.specs.Table.{Each}
 use Rattle.theory.specs.Direction.{Direction, backward, forward}
-use Rattle.theory.specs.Each.{each-at}
+use Rattle.model.specs.Each.{each-at}
 use Rattle.uses.specs.Numbers.{limit, chosen, isUseOf, totalBelow, startOf, Indexed}
 use Rattle.uses.specs.Theory.{rowOf, each-chosen}
 use Rattle.uses.specs.Lists.{Row, start, listed, ListedUses}

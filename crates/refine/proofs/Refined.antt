@@ -14,7 +14,7 @@ use Rattle.tables.specs.Record.{Columns, rowAt, tableOf, Holds}
 use Rattle.tables.specs.declared.TableRecord.{TableRecord}
 use Rattle.theory.specs.Arithmetic.{arithmetic, Weight, meaning, meaning-same}
 use Rattle.theory.specs.Direction.{Direction, backward, forward, direction}
-use Rattle.theory.specs.Each.{each-implies, each-map, each-append, each-places}
+use Rattle.model.specs.Each.{each-implies, each-map, each-append, each-places}
 use Rattle.theory.specs.Equality.{numbers}
 use Rattle.theory.specs.Profile.{Use, Key, keyOf, packedSum, packed-profile, profile-packed, SameProfile, Independent}
 use Rattle.theory.specs.Sum.{only, sum-map, sum-same}

@@ -4,11 +4,11 @@ use mathlib.Core.Path.{_≡_, ap, _∙_}
 use mathlib.Core.List.{List, [], _∷_, _++_}
 use native.Mathlib.Omega.{arith}
 use lib.ListN.{length, getD, length-append}
+use Rattle.model.specs.Each.{each-implies, each-getD}
 use Rattle.model.specs.Table.{Table, Transition, Each, Proper, ProperTransition}
 use Rattle.numbers.specs.Written.{written, writtenAll}
 use Rattle.format.specs.Read.{found, tableRead}
 use Rattle.format.specs.Written.{transitionNumbers, transitionsNumbers, bytesOf}
-use Rattle.roundtrip.specs.Members.{each-weaker, each-at}
 use Rattle.roundtrip.specs.Numbers.{written-few, written-one, written-two}
 use Rattle.roundtrip.specs.Tables.{table-sound}
 
@@ -34,9 +34,9 @@ module _ (ranks : List ℕ) (states : ℕ) (symbols-few : length ranks ≤ 128) 
   transition-length t h =
       let symbol-known : t .symbol < length ranks = h .symbol-known in
       let target-known : t .target < states = h .target-known in
-      let rank : getD ranks (t .symbol) 0 ≤ 4 = each-at (λ k. k ≤ 4) ranks 0 (omega arith) ranks-small (t .symbol) in
+      let rank : getD ranks (t .symbol) 0 ≤ 4 = each-getD (λ k. k ≤ 4) ranks (t .symbol) 0 ranks-small (omega arith) in
       let children : length (writtenAll (t .children)) ≤ 2 * length (t .children) =
-      length-all 2 (t .children) (each-weaker (λ q. q < states) (λ q. length (written q) ≤ 2) (λ q l. written-two q (omega arith)) (t .children) (h .children-known)) in
+      length-all 2 (t .children) (each-implies (λ q. q < states) (λ q. length (written q) ≤ 2) (λ q l. written-two q (omega arith)) (t .children) (h .children-known)) in
       omega (
         arith,
         length-parts (t .symbol ∷ t .children) (t .target ∷ t .code ∷ []),
@@ -58,7 +58,7 @@ module _ (ranks : List ℕ) (states : ℕ) (symbols-few : length ranks ≤ 128) 
 -- the bytes of ranks, each one byte
 pub ranks-length : (ranks : List ℕ) → Each (λ k. k ≤ 4) ranks → length (writtenAll ranks) ≤ length ranks
 ranks-length ranks h =
-    omega (arith, length-all 1 ranks (each-weaker (λ k. k ≤ 4) (λ k. length (written k) ≤ 1) (λ k l. omega (arith, written-one k (omega arith))) ranks h))
+    omega (arith, length-all 1 ranks (each-implies (λ k. k ≤ 4) (λ k. length (written k) ≤ 1) (λ k l. omega (arith, written-one k (omega arith))) ranks h))
 
 each-few : (ns : List ℕ) → Each (λ n. length (written n) ≤ 5) ns
 each-few [] = tt

@@ -1,4 +1,3 @@
-pub mod Members
 pub mod Numbers
 pub mod Sequences
 pub mod Readers

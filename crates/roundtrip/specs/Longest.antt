@@ -10,7 +10,7 @@ use borrow.Author.Tests.{eq-eqb, ne-eqb, lt-ltb}
 use Rattle.model.specs.Table.{Table, Transition, Each, Proper, ProperTransition, key, lower, Ascending}
 use Rattle.numbers.specs.Written.{groups, written, writtenAll}
 use Rattle.format.specs.Written.{transitionsNumbers, bytesOf}
-use Rattle.roundtrip.specs.Numbers.{written-one, groups-more, groups-last}
+use Rattle.roundtrip.specs.Numbers.{written-one, two-bytes}
 use Rattle.roundtrip.specs.Length.{length-table}
 
 -- the greatest code, five bytes long
@@ -20,10 +20,6 @@ top = 4294967295
 top-length : length (written top) ≡ 5
 unfolding groups
 top-length = refl
-
--- a number from 128 on and below 16,384 takes two bytes
-two-bytes : (n : ℕ) → 128 ≤ n → n < 16384 → length (written n) ≡ 2
-two-bytes n h l = rw (groups-more 3 n h, groups-last 3 (n / 128) (omega arith))
 
 -- transition i: four children and a target of 128 or more, of which the last two children tell i
 abbrev row : ℕ → Transition

@@ -175,18 +175,10 @@ module _ (s : List ℕ) where
 
 -- How many bytes a number takes.
 
-groups-some : (g n : ℕ) → 1 ≤ length (groups g n)
-groups-some zero n = rw (groups-zero n) (omega arith)
-groups-some (suc g) n =
-    elim (decLt n 128) [ yes l ↦ rw (groups-last (suc g) n l) (omega arith) | no l ↦ rw (groups-more g n (omega arith)) (omega arith) ]
-
 groups-few : (g n : ℕ) → length (groups g n) ≤ g + 1
 groups-few zero n = rw (groups-zero n) (omega arith)
 groups-few (suc g) n =
     elim (decLt n 128) [ yes l ↦ rw (groups-last (suc g) n l) (omega arith) | no l ↦ rw (groups-more g n (omega arith)) (omega (arith, groups-few g (n / 128))) ]
-
-pub written-some : (n : ℕ) → 1 ≤ length (written n)
-written-some n = groups-some 4 n
 
 pub written-few : (n : ℕ) → length (written n) ≤ 5
 written-few n = groups-few 4 n
@@ -194,20 +186,15 @@ written-few n = groups-few 4 n
 pub written-one : (n : ℕ) → n < 128 → length (written n) ≡ 1
 written-one n l = rw (groups-last 4 n l)
 
+pub two-bytes : (n : ℕ) → 128 ≤ n → n < 16384 → length (written n) ≡ 2
+two-bytes n h l = rw (groups-more 3 n h, groups-last 3 (n / 128) (omega arith))
+
 pub written-two : (n : ℕ) → n < 16384 → length (written n) ≤ 2
 written-two n l =
     elim (decLt n 128) [
       | yes few ↦ omega (arith, written-one n few)
-      | no many ↦ rw (groups-more 3 n (omega arith), groups-last 3 (n / 128) (omega arith)) (omega arith)
+      | no many ↦ omega (arith, two-bytes n (omega arith) l)
     ]
-
--- No written number is the beginning of another, and none is the written form of two.
-pub written-prefix-free : (n m : ℕ) (rest rest₁ : List ℕ) → n < 2 ^ 32 → m < 2 ^ 32 → written n ++ rest ≡ written m ++ rest₁ → n ≡ m
-written-prefix-free n m rest rest₁ l l₁ e =
-    same-number _ _ _ _ _ (number-complete (written m ++ rest₁) 0 m rest₁ l₁ refl) (number-complete (written m ++ rest₁) 0 n rest l (sym e)) .0
-
-pub written-injective : (n m : ℕ) → n < 2 ^ 32 → m < 2 ^ 32 → written n ≡ written m → n ≡ m
-written-injective n m l l₁ e = written-prefix-free n m [] [] l l₁ (rw e)
 
 -- What is written are bytes.
 

@@ -16,9 +16,9 @@ use Rattle.numbers.specs.declared.NumberRead.{NumberRead}
 use Rattle.numbers.specs.declared.NumberRead.the-variants.{Number, Refused}
 use Rattle.numbers.specs.Read.{choose, below, moreFrom, numberAt}
 use Rattle.numbers.specs.Written.{written}
+use Rattle.model.specs.Each.{each-implies, each-getD}
 use Rattle.model.specs.Table.{Table, Transition, Each, key, lower}
 use Rattle.format.specs.Written.{transitionNumbers, transitionsNumbers}
-use Rattle.roundtrip.specs.Members.{each-weaker, each-at}
 use Rattle.roundtrip.specs.Numbers.{written-one, written-two, written-few}
 use Rattle.roundtrip.specs.Sequences.{reads-end}
 use Rattle.roundtrip.specs.Readers.{Reader, itself, found-same, found-behind, any-reader, within-reader, oneOf-reader}
@@ -181,7 +181,7 @@ module _ (s : List ℕ) (small : (i : ℕ) → getD s i 0 < 256) (size : ℕ) wh
     early-transition at h =
         early-behind s size (oneOf s (length ranks) at) _ _ _ (early-oneOf (length ranks) at (omega arith)) λ symbol at₁ e₁.
         let l₁ : at₁ ≤ at + 1 = symbol-narrow at symbol at₁ e₁ in
-        let rank : getD ranks symbol 0 ≤ 4 = each-at (λ k. k ≤ 4) ranks 0 (omega arith) ranks-small symbol in
+        let rank : getD ranks symbol 0 ≤ 4 = each-getD (λ k. k ≤ 4) ranks symbol 0 ranks-small (omega arith) in
         early-behind s size (many (oneOf s states) (getD ranks symbol 0) at₁) _ _ _
         (early-many s size (oneOf s states) (oneOf (take size s) states) 2 (omega arith) (early-oneOf states) state-narrow (getD ranks symbol 0) at₁ (omega arith)) λ children at₂ e₂.
         let l₂ : at₂ ≤ at₁ + 2 * getD ranks symbol 0 = many-narrow (oneOf s states) 2 state-narrow (getD ranks symbol 0) at₁ children at₂ e₂ in
@@ -244,7 +244,7 @@ module _ (s : List ℕ) (small : (i : ℕ) → getD s i 0 < 256) (size : ℕ) wh
       early-behind s size (within s 0 4000 at₅) _ _ _ (early-within 0 4000 at₅ (omega arith)) λ transitions at₆ e₆.
       let (transitions-few, l₆) = range 0 4000 2 (omega arith) (λ n l. written-two n (omega arith)) at₅ transitions at₆ e₆ in
       let (ranks-known, reads) = ranks-reader s small symbols .sound at₃ ranks at₄ e₄ in
-      let ranks-small : Each (λ k. k ≤ 4) ranks = each-weaker (λ n. (0 ≤ n) × (n ≤ 4)) (λ n. n ≤ 4) (λ n h. h .1) ranks (ranks-known .1) in
+      let ranks-small : Each (λ k. k ≤ 4) ranks = each-implies (λ n. (0 ≤ n) × (n ≤ 4)) (λ n. n ≤ 4) (λ n h. h .1) ranks (ranks-known .1) in
       let ranks-few : length ranks ≤ 128 = omega (arith, ranks-known .0) in
       early-behind s size (transitionsAt s ranks states transitions [] at₆) _ _ _
       (early-transitions ranks states ranks-few states-few ranks-small transitions [] at₆ (omega arith)) λ ts end e₇.

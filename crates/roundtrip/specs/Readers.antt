@@ -4,6 +4,7 @@ use mathlib.Core.Path.{_≡_, refl, ap, _∙_, subst₂}
 use mathlib.Core.Bool.{Bool, true, false, _&&_}
 use mathlib.Core.List.{List, [], _∷_}
 use native.Mathlib.Omega.{arith}
+use mir.Facts.{and-yes, yes-and}
 use lib.ListN.{length, getD}
 use lib.Dec.{T, leb, ltb, leb→le, le→leb, ltb→lt, lt→ltb}
 use Rattle.answers.specs.declared.Refusal.{Refusal}
@@ -66,14 +67,6 @@ module _ (s : List ℕ) {A : Type 0} (numbers : A → List ℕ) (item : ℕ → 
     complete = λ at a p h reads. go-on (item at) _ (r .complete at a p (h .0) reads) (go-on-under (test a) (refusal at) _ (h .1) refl);
   }
 
-T-both : (a b : Bool) → T (a && b) → T a × T b
-T-both true b h = (tt, h)
-T-both false b h = absurd h
-
-both-T : (a b : Bool) → T a → T b → T (a && b)
-both-T true b h k = k
-both-T false b h k = absurd h
-
 number-found : (r : NumberRead) (n p : ℕ) → asFound r ≡ found n p → r ≡ number n p
 number-found (Number m next) n p e = let e₁ : m ≡ n = cc in let e₂ : next .at ≡ p = cc in λ i. Number (e₁ i) (record { at = e₂ i })
 number-found (Refused refusal) n p e = let z : _≡_ {A = ℕ} 0 1 = cc in absurd (omega arith)
@@ -100,8 +93,8 @@ module _ (s : List ℕ) (small : (i : ℕ) → getD s i 0 < 256) where
   pub within-reader : (low high : ℕ) → high < 2 ^ 32 → Reader s (λ n. (low ≤ n) × (n ≤ high)) itself (within s low high)
   within-reader low high h =
       tested-number (λ n. (low ≤ n) × (n ≤ high)) (λ n. leb low n && leb n high) OutOfRange
-      (λ n k. let (a, b) = T-both (leb low n) (leb n high) (k .1) in (leb→le low n a, leb→le n high b))
-      (λ n k. (omega arith, both-T (leb low n) (leb n high) (le→leb low n (k .0)) (le→leb n high (k .1))))
+      (λ n k. let (a, b) = and-yes (leb low n) (leb n high) (k .1) in (leb→le low n a, leb→le n high b))
+      (λ n k. (omega arith, yes-and (leb low n) (leb n high) (le→leb low n (k .0)) (le→leb n high (k .1))))
 
   -- the number of one of `limit` symbols or states
   pub oneOf-reader : (limit : ℕ) → limit ≤ 2 ^ 32 → Reader s (λ n. n < limit) itself (oneOf s limit)

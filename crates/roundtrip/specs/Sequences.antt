@@ -4,10 +4,10 @@ use mathlib.Core.Path.{_≡_, refl, sym, ap, _∙_, subst}
 use mathlib.Core.List.{List, [], _∷_, _++_, append-assoc}
 use native.Mathlib.Omega.{arith}
 use lib.ListN.{length, getD, drop, length-append}
+use Rattle.model.specs.Each.{each-append}
 use Rattle.model.specs.Table.{Each}
 use Rattle.numbers.specs.Read.{number, numberAt}
 use Rattle.numbers.specs.Written.{written, writtenAll}
-use Rattle.roundtrip.specs.Members.{each-append}
 use Rattle.roundtrip.specs.Numbers.{Stands, number-sound, number-complete, drop-behind, written-bytes}
 
 -- from `at` up to `p` these numbers are read, one after another

@@ -8,10 +8,10 @@ use native.Mathlib.Nat.{zero-add}
 use lib.ListN.{length, getD, drop-of-length-le}
 use lib.Dec.{leb, leb→le, le→leb}
 use Rattle.answers.specs.declared.Refusal.the-variants.{TableGoesOn}
+use Rattle.model.specs.Each.{each-append, each-implies, each-getD}
 use Rattle.model.specs.Table.{Table, Transition, Each, Proper, ProperTransition}
 use Rattle.format.specs.Read.{found, any, within, many, transitionsAt, tableRead}
 use Rattle.format.specs.Written.{transitionNumbers, transitionsNumbers, tableNumbers, bytesOf}
-use Rattle.roundtrip.specs.Members.{each-append, each-weaker, each-at}
 use Rattle.roundtrip.specs.Numbers.{Stands}
 use Rattle.roundtrip.specs.Sequences.{Reads, reads-append, reads-split, reads-stand, written-reads, writtenAll-bytes}
 use Rattle.roundtrip.specs.Readers.{Reader, itself, found-same, found-behind, found-under, go-on, go-on-under, any-reader, within-reader, many-reader}
@@ -55,7 +55,7 @@ module _ (s : List ℕ) (small : (i : ℕ) → getD s i 0 < 256) where
           states-few = h₂ .1;
           symbols-some = omega (arith, h₃, h₄ .0);
           symbols-few = omega (arith, h₃, h₄ .0);
-          ranks-small = each-weaker (λ n. (0 ≤ n) × (n ≤ 4)) (λ n. n ≤ 4) (λ n h. h .1) ranks (h₄ .1);
+          ranks-small = each-implies (λ n. (0 ≤ n) × (n ≤ 4)) (λ n. n ≤ 4) (λ n h. h .1) ranks (h₄ .1);
           finals-many = h₅ .0;
           finals-fit = h₅ .1;
           transitions-few = omega (arith, h₆, h₇ .0);
@@ -83,7 +83,7 @@ module _ (s : List ℕ) (small : (i : ℕ) → getD s i 0 < 256) where
       reads-split s (X .finals) from₆ at₄ p behind₄ λ at₅ reads₅ behind₅.
       reads-split s (itself (length (X .transitions))) (transitionsNumbers (X .transitions)) at₅ p behind₅ λ at₆ reads₆ reads₇.
       let ranks-small : Each (λ n. (0 ≤ n) × (n ≤ 4)) (X .ranks) =
-      each-weaker (λ n. n ≤ 4) (λ n. (0 ≤ n) × (n ≤ 4)) (λ n h. (omega arith, h)) (X .ranks) (proper .ranks-small) in
+      each-implies (λ n. n ≤ 4) (λ n. (0 ≤ n) × (n ≤ 4)) (λ n h. (omega arith, h)) (X .ranks) (proper .ranks-small) in
       go-on (within s 0 1 0) _ (within-reader s small 0 1 (omega arith) .complete 0 (X .arithmetic) at₁ (omega arith, proper .arithmetic-known) reads₁)
       (go-on (within s 1 256 at₁) _ (within-reader s small 1 256 (omega arith) .complete at₁ (X .states) at₂ (proper .states-some, proper .states-few) reads₂)
       (go-on (within s 1 128 at₂) _
@@ -108,7 +108,7 @@ module _ (ranks : List ℕ) (states : ℕ) (symbols-few : length ranks ≤ 2 ^ 3
       let target-known : t .target < states = h .target-known in (
         omega arith,
         each-append Fits (t .children) (t .target ∷ t .code ∷ [])
-            (each-weaker (λ q. q < states) Fits (λ q l. omega arith) (t .children) (h .children-known))
+            (each-implies (λ q. q < states) Fits (λ q l. omega arith) (t .children) (h .children-known))
             (omega arith, (h .code-fits, tt)),
       )
 
@@ -125,7 +125,7 @@ table-fits X proper = (
     (
       omega (arith, proper .symbols-few),
       each-append Fits (X .ranks) (X .finals ++ (length (X .transitions) ∷ transitionsNumbers (X .transitions)))
-          (each-weaker (λ k. k ≤ 4) Fits (λ k l. omega arith) (X .ranks) (proper .ranks-small))
+          (each-implies (λ k. k ≤ 4) Fits (λ k l. omega arith) (X .ranks) (proper .ranks-small))
           (each-append Fits (X .finals) (length (X .transitions) ∷ transitionsNumbers (X .transitions)) (proper .finals-fit) (
             omega (arith, proper .transitions-few),
             transitions-fit (X .ranks) (X .states) (omega (arith, proper .symbols-few)) (omega (arith, proper .states-few)) (X .transitions) (proper .transitions-proper),
@@ -136,7 +136,7 @@ table-fits X proper = (
 
 -- what is written are bytes
 pub table-bytes : (X : Table) → Proper X → (i : ℕ) → getD (bytesOf X) i 0 < 256
-table-bytes X proper = each-at (λ b. b < 256) (bytesOf X) 0 (omega arith) (writtenAll-bytes (tableNumbers X) (table-fits X proper))
+table-bytes X proper i = each-getD (λ b. b < 256) (bytesOf X) i 0 (writtenAll-bytes (tableNumbers X) (table-fits X proper)) (omega arith)
 
 -- a table that is read is proper, and the bytes are those of the table, to the last
 pub table-sound : (s : List ℕ) → ((i : ℕ) → getD s i 0 < 256) → (X : Table) (p : ℕ) → tableRead s ≡ found X p → Proper X × (s ≡ bytesOf X) × (p ≡ length s)

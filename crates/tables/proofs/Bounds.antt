@@ -7,7 +7,7 @@ use lib.ListN.{getD, set}
 use lib.Dec.{leb, ltb}
 use borrow.Author.Tests.{ltb-true, leb-true}
 use Rattle.answers.specs.declared.Refusal.{Refusal}
-use Rattle.format.specs.Read.{Found, found, refused, after, provided, any, within, oneOf, listed}
+use Rattle.format.specs.Read.{Found, found, refused, after, provided, any, within, oneOf}
 
 -- a value that was found
 abbrev Is : (ℕ → Type 0) → Found ℕ → Type 0
@@ -35,9 +35,6 @@ module _ (s : List ℕ) (at : ℕ) {n next : ℕ} where
   within-bounds low high e =
       let t = both (leb low n) (leb n high) (subst (Is (λ n. leb low n && leb n high ≡ true)) e (passed (λ n. leb low n && leb n high) _ (any s at))) in
       (leb-true low n (t .0), leb-true n high (t .1))
-
-  pub listed-positive : listed s at ≡ found n next → 0 < n
-  listed-positive e = ltb-true 0 n (subst (Is (λ n. ltb 0 n ≡ true)) e (passed (λ n. ltb 0 n) _ (any s at)))
 
 -- a store of a small number keeps every number small
 pub at-most-set : (l : List ℕ) (i n j bound : ℕ) → getD l j 0 ≤ bound → n ≤ bound → getD (set l i n) j 0 ≤ bound

@@ -6,7 +6,7 @@ use numbers::Cursor;
 use numbers::NumberRead;
 use states::State;
 ghost use mathlib.Core.Path.{_≡_};
-ghost use Prim.Native.Nat.{ℕ, _+_, _*_, _≤_, _<_};
+ghost use Prim.Native.Nat.{_+_, _*_, _≤_, _<_};
 ghost use mathlib.Core.List.{[]};
 ghost use lib.ListN.{length, getD, take};
 ghost use Rattle.format.specs.Read.{any, asFound, within, oneOf, listed, many, transitionAt, transitionsAt, tableRead};

@@ -5,11 +5,12 @@ use mathlib.Core.Bool.{Bool, _&&_}
 use mathlib.Core.List.{List, [], map, map-map, List·Memᴰ}
 use Prim.Native.Nat.{ℕ, _<_, _^_}
 use native.Mathlib.Omega.{arith}
+use mir.Facts.{and-yes, yes-and}
 use lib.Dec.{T, eqb, eqb→eq}
 use lib.ListN.{getD}
 use Rattle.model.specs.Table.{Table, Transition, Each, key, Ascending, ProperTransition, Proper}
-use Rattle.theory.specs.Each.{each-implies, each-map, each-members, each-member, map-each}
-use Rattle.theory.specs.Equality.{numbers, lists, sameList, sameList-equal, equal-same, and-parts, and-both, test-iff}
+use Rattle.model.specs.Each.{each-implies, each-map, each-members, each-member, map-each}
+use Rattle.theory.specs.Equality.{numbers, lists, sameList, sameList-equal, equal-same, test-iff}
 use Rattle.theory.specs.Semiring.{Semiring}
 use Rattle.theory.specs.Sum.{only, sum-same, sum-met, only-and}
 use Rattle.theory.specs.Grouping.{keySum, keySums-met}
@@ -18,9 +19,7 @@ use Rattle.theory.specs.Blocks.{blockOf, blockCount, FirstUse, blockCoun
 use Rattle.theory.specs.Bisimulation as General
 use Rattle.theory.specs.Direction.{Direction, backward, forward, Agree, Bisimulation, CoarsestBlocks}
 use Rattle.theory.specs.Uses.{agreement}
-use Rattle.theory.specs.Order.{listOrder}
-use Rattle.theory.specs.Listing.{listed-holds}
-use Rattle.theory.specs.Entry.{keyAt, keyAt-parts, blockKey, codeAt, weightAtKey, weightAtKey-listed, Between, codeAt-own}
+use Rattle.theory.specs.Entry.{keyAt, keyAt-parts, blockKey, codeAt, weightAtKey, weightAtKey-listed, Between, codeAt-own, codeAt-holds}
 use Rattle.theory.specs.Collapse.{blockWeight, blockFinal, Shape, Collapsed, CollapsedByCoarsest}
 use Rattle.theory.specs.BlockWeight.{counts, Counts, counts-sound, counts-complete, counts-blocks, blockWeight-counts, blockWeight-member, blockFinal-member}
 
@@ -97,9 +96,9 @@ module _ (d : Direction) (X : Table) (b r : ℕ → ℕ) (proper : Proper X) (bi
     -- the transitions that are summed for the named members are the named ones with their blocks
     counts-named : (t : Transition) → counts X b d σ (map name qs) (name q) t ≡ (sameList (blockKey b t) k && named X b r d t)
     counts-named t = test-iff (counts X b d σ (map name qs) (name q) t) (sameList (blockKey b t) k && named X b r d t)
-        (λ h. let c = counts-sound X b d σ (map name qs) (name q) t h in and-both (sameList (blockKey b t) k) (named X b r d t)
+        (λ h. let c = counts-sound X b d σ (map name qs) (name q) t h in yes-and (sameList (blockKey b t) k) (named X b r d t)
         (equal-same lists (blockKey b t) k (counts-blocks X b d σ (map name qs) (name q) t c ∙ ap₂ (keyAt σ) blocks-same (name-block q lq))) (named-of d t c))
-        (λ h. let (f, n) = and-parts (sameList (blockKey b t) k) (named X b r d t) h in
+        (λ h. let (f, n) = and-yes (sameList (blockKey b t) k) (named X b r d t) h in
         counts-complete X b d σ (map name qs) (name q) t (of-named d t (sameList-equal (blockKey b t) k f) n))
 
     -- what is added up is the weight for the blocks
@@ -112,7 +111,7 @@ module _ (d : Direction) (X : Table) (b r : ℕ → ℕ) (proper : Proper X) (bi
 
   module _ (Y : Table) (A : AddedUp d X b r Y) where
     codeAt-added : (k : List ℕ) → codeAt (Y .transitions) k ≡ codeOf a (namedSum X b r d k)
-    codeAt-added k = sym (codeOf-meaning a (codeAt (Y .transitions) k) (listed-holds lists listOrder key (λ t. t .code) 0 (λ c. c < 2 ^ 32) (omega arith) (Y .transitions) (A .codes-fit) k))
+    codeAt-added k = sym (codeOf-meaning a (codeAt (Y .transitions) k) (codeAt-holds (λ c. c < 2 ^ 32) (omega arith) (Y .transitions) (A .codes-fit) k))
         ∙ ap (codeOf a) (sym (weightAtKey-listed a (Y .transitions) (A .shape .ascending) k) ∙ A .sums-added k)
 
     block-added : (q : ℕ) → q < X .states → b q < Y .states

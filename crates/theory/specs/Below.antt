@@ -8,7 +8,7 @@ use native.Mathlib.Omega.{arith}
 use lib.Dec.{eqb}
 use lib.ListN.{length, getD}
 use Rattle.model.specs.Table.{Each}
-use Rattle.theory.specs.Each.{each-at}
+use Rattle.model.specs.Each.{each-at}
 use Rattle.theory.specs.Equality.{numbers, equal-or-not, same-true, same-false, false-differ}
 use Rattle.theory.specs.Semiring.{Semiring}
 use Rattle.theory.specs.Sum.{only, sum, zero-plus}

@@ -5,12 +5,13 @@ use mathlib.Core.Bool.{Bool, _&&_}
 use mathlib.Core.List.{List, [], _∷_, _++_, map, List·Memᴰ, nil≢cons, cons≢nil, head-eq-of-cons-eq, tail-eq-of-cons-eq}
 use Prim.Native.Nat.{ℕ, _<_, _^_}
 use native.Mathlib.Omega.{arith}
+use mir.Facts.{and-yes, yes-and}
 use lib.Dec.{T, eqb, eqb→eq}
 use lib.ListN.{getD}
 use lib.Seq.{append-snoc}
 use Rattle.model.specs.Table.{Table, Transition, Each, ProperTransition, Proper}
-use Rattle.theory.specs.Each.{each-implies, each-append, each-getD}
-use Rattle.theory.specs.Equality.{numbers, lists, sameList, sameList-equal, equal-same, and-parts, and-both}
+use Rattle.model.specs.Each.{each-implies, each-append, each-getD}
+use Rattle.theory.specs.Equality.{numbers, lists, sameList, sameList-equal, equal-same}
 use Rattle.theory.specs.Semiring.{Semiring}
 use Rattle.theory.specs.Sum.{only, sum, sum-same, sum-met, only-and, only-holds}
 use Rattle.theory.specs.Below.{below, each-below}
@@ -41,19 +42,19 @@ module _ (X : Table) (b : ℕ → ℕ) where
 
   pub counts-sound : (d : Direction) (σ : ℕ) (qs : List ℕ) (q : ℕ) (t : Transition) → T (counts d σ qs q t) → Counts d σ qs q t
   counts-sound backward σ qs q t h =
-      let (l, m) = and-parts (sameList (map b (t .children)) (map b qs)) (eqb (t .symbol) σ && eqb (t .target) q) h in
-      let (s, e) = and-parts (eqb (t .symbol) σ) (eqb (t .target) q) m in
+      let (l, m) = and-yes (sameList (map b (t .children)) (map b qs)) (eqb (t .symbol) σ && eqb (t .target) q) h in
+      let (s, e) = and-yes (eqb (t .symbol) σ) (eqb (t .target) q) m in
       (eqb→eq (t .symbol) σ s, sameList-equal (map b (t .children)) (map b qs) l, eqb→eq (t .target) q e)
   counts-sound forward σ qs q t h =
-      let (e, m) = and-parts (eqb (b (t .target)) (b q)) (eqb (t .symbol) σ && sameList (t .children) qs) h in
-      let (s, l) = and-parts (eqb (t .symbol) σ) (sameList (t .children) qs) m in
+      let (e, m) = and-yes (eqb (b (t .target)) (b q)) (eqb (t .symbol) σ && sameList (t .children) qs) h in
+      let (s, l) = and-yes (eqb (t .symbol) σ) (sameList (t .children) qs) m in
       (eqb→eq (t .symbol) σ s, sameList-equal (t .children) qs l, eqb→eq (b (t .target)) (b q) e)
 
   pub counts-complete : (d : Direction) (σ : ℕ) (qs : List ℕ) (q : ℕ) (t : Transition) → Counts d σ qs q t → T (counts d σ qs q t)
-  counts-complete backward σ qs q t (s, l, e) = and-both (sameList (map b (t .children)) (map b qs)) (eqb (t .symbol) σ && eqb (t .target) q) (equal-same lists _ _ l)
-      (and-both (eqb (t .symbol) σ) (eqb (t .target) q) (equal-same numbers _ _ s) (equal-same numbers _ _ e))
-  counts-complete forward σ qs q t (s, l, e) = and-both (eqb (b (t .target)) (b q)) (eqb (t .symbol) σ && sameList (t .children) qs) (equal-same numbers _ _ e)
-      (and-both (eqb (t .symbol) σ) (sameList (t .children) qs) (equal-same numbers _ _ s) (equal-same lists _ _ l))
+  counts-complete backward σ qs q t (s, l, e) = yes-and (sameList (map b (t .children)) (map b qs)) (eqb (t .symbol) σ && eqb (t .target) q) (equal-same lists _ _ l)
+      (yes-and (eqb (t .symbol) σ) (eqb (t .target) q) (equal-same numbers _ _ s) (equal-same numbers _ _ e))
+  counts-complete forward σ qs q t (s, l, e) = yes-and (eqb (b (t .target)) (b q)) (eqb (t .symbol) σ && sameList (t .children) qs) (equal-same numbers _ _ e)
+      (yes-and (eqb (t .symbol) σ) (sameList (t .children) qs) (equal-same numbers _ _ s) (equal-same lists _ _ l))
 
   pub counts-blocks : (d : Direction) (σ : ℕ) (qs : List ℕ) (q : ℕ) (t : Transition) → Counts d σ qs q t → blockKey b t ≡ keyAt σ (map b qs) (b q)
   counts-blocks backward σ qs q t (s, l, e) = λ i. keyAt (s i) (l i) (b (e i))

@@ -19,7 +19,7 @@ blockOf blocks q = getD blocks q 0
 pub record Refines (n : ℕ) (c b : ℕ → ℕ) : Type 0 where
   pub keeps : (p q : ℕ) → p < n → q < n → c p ≡ c q → b p ≡ b q
 
--- one more than the greatest block of the states below i
+-- one more than the greatest block of the states below i: numbered by first use, that is how many blocks they have
 abbrev pub blockCount : (ℕ → ℕ) → ℕ → ℕ
 blockCount b zero = zero
 blockCount b (suc i) = max (blockCount b i) (suc (b i))

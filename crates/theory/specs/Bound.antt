@@ -10,7 +10,7 @@ use lib.ListN.{length, getD, length-append}
 use lib.Signed.{mag}
 use Rattle.model.specs.Table.{Table, Transition, Each, Proper, ProperTransition}
 use Rattle.model.specs.Tree.{Tree, Forest, node, none, _then_, prefix, prefixes}
-use Rattle.theory.specs.Each.{each-implies, each-getD}
+use Rattle.model.specs.Each.{each-implies, each-getD}
 use Rattle.theory.specs.Equality.{of-true}
 use Rattle.theory.specs.Sum.{sum-holds, only-holds}
 use Rattle.theory.specs.Maximum.{maxZ-both}

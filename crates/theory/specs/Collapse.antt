@@ -7,7 +7,7 @@ use lib.Dec.{eqb}
 use lib.ListN.{length, getD}
 use lib.Seq.{ext-getD}
 use Rattle.model.specs.Table.{Table, Transition, Each, key, Ascending}
-use Rattle.theory.specs.Each.{each-implies, each-map, each-member}
+use Rattle.model.specs.Each.{each-implies, each-map, each-member}
 use Rattle.theory.specs.Sum.{only, sum}
 use Rattle.theory.specs.Below.{below}
 use Rattle.theory.specs.Arithmetic.{arithmetic, Weight, codeOf}

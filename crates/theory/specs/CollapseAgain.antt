@@ -3,7 +3,7 @@ use mathlib.Core.Path.{_≡_, sym, ap, _∙_, subst}
 use mathlib.Core.List.{List, _∷_, _++_, map, map-map, map-append}
 use Prim.Native.Nat.{ℕ, _<_}
 use Rattle.model.specs.Table.{Table, Each, Proper}
-use Rattle.theory.specs.Each.{each-append}
+use Rattle.model.specs.Each.{each-append}
 use Rattle.theory.specs.Equality.{numbers, lists, sameList}
 use Rattle.theory.specs.Semiring.{Semiring}
 use Rattle.theory.specs.Sum.{only, sum-same}

@@ -6,7 +6,7 @@ use Prim.Native.Nat.{ℕ, _<_, _≤_, _^_}
 use native.Mathlib.Omega.{arith}
 use lib.ListN.{length, getD, length-map}
 use Rattle.model.specs.Table.{Table, Transition, Each, key, ProperTransition, Proper}
-use Rattle.theory.specs.Each.{each-members, each-member, each-places}
+use Rattle.model.specs.Each.{each-members, each-member, each-places}
 use Rattle.theory.specs.Equality.{lists}
 use Rattle.theory.specs.Arithmetic.{arithmetic, codeOf, codeOf-zero}
 use Rattle.theory.specs.Blocks.{blockOf, FirstUse, blockCount-few}

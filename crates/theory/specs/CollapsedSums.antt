@@ -3,7 +3,7 @@ use mathlib.Core.Path.{_≡_, sym, ap, _∙_, subst}
 use mathlib.Core.List.{List, map}
 use Prim.Native.Nat.{ℕ, _<_}
 use Rattle.model.specs.Table.{Table, Each, ProperTransition}
-use Rattle.theory.specs.Each.{each-implies}
+use Rattle.model.specs.Each.{each-implies}
 use Rattle.theory.specs.Equality.{numbers, lists}
 use Rattle.theory.specs.Semiring.{Semiring}
 use Rattle.theory.specs.Grouping.{keySum, keySums-met}

@@ -5,11 +5,13 @@ use mathlib.Core.List.{List, [], _∷_}
 use Prim.Native.Nat.{ℕ, zero, suc, _+_, _<_, _≤_}
 use native.Mathlib.Omega.{arith}
 use native.Mathlib.Decide.{decLt}
+use mir.Facts.{yes-and}
+use store.Enc.{and-l, and-r}
 use lib.Dec.{T, eqb, eqb→eq, leb, leb→le}
 use lib.ListN.{length}
 use Rattle.model.specs.Table.{Table, Each, Proper}
-use Rattle.theory.specs.Each.{each-implies}
-use Rattle.theory.specs.Equality.{numbers, equal-same, and-first, and-second, and-both}
+use Rattle.model.specs.Each.{each-implies}
+use Rattle.theory.specs.Equality.{numbers, equal-same}
 use Rattle.theory.specs.Below.{below, upFrom}
 use Rattle.theory.specs.Semiring.{Semiring}
 use Rattle.theory.specs.Arithmetic.{arithmetic}
@@ -27,19 +29,19 @@ all (x ∷ xs) f = f x && all xs f
 
 pub all-each : {A : Type 0} (xs : List A) (f : A → Bool) → T (all xs f) → Each (λ x. T (f x)) xs
 all-each [] f t = tt
-all-each (x ∷ xs) f t = (and-first (f x) (all xs f) t, all-each xs f (and-second (f x) (all xs f) t))
+all-each (x ∷ xs) f t = (and-l (f x) (all xs f) t, all-each xs f (and-r (f x) (all xs f) t))
 
 pub all-of : {A : Type 0} (xs : List A) (f : A → Bool) → ((x : A) → T (f x)) → T (all xs f)
 all-of [] f h = tt
-all-of (x ∷ xs) f h = and-both (f x) (all xs f) (h x) (all-of xs f h)
+all-of (x ∷ xs) f h = yes-and (f x) (all xs f) (h x) (all-of xs f h)
 
 all-upFrom : (i k : ℕ) (f : ℕ → Bool) → T (all (upFrom i k) f) → (q : ℕ) → i ≤ q → q < i + k → T (f q)
 all-upFrom i zero f t q l m = absurd (omega arith)
-all-upFrom i (suc k) f t q l m = go (decLt i q) (all-upFrom (suc i) k f (and-second (f i) (all (upFrom (suc i) k) f) t) q)
+all-upFrom i (suc k) f t q l m = go (decLt i q) (all-upFrom (suc i) k f (and-r (f i) (all (upFrom (suc i) k) f) t) q)
   where
     go : Dec (i < q) → (suc i ≤ q → q < suc i + k → T (f q)) → T (f q)
     go (yes h) ih = ih h (omega arith)
-    go (no h) ih = let e : i ≡ q = omega arith in subst (λ (x : ℕ). T (f x)) e (and-first (f i) (all (upFrom (suc i) k) f) t)
+    go (no h) ih = let e : i ≡ q = omega arith in subst (λ (x : ℕ). T (f x)) e (and-l (f i) (all (upFrom (suc i) k) f) t)
 
 pub all-below : (n : ℕ) (f : ℕ → Bool) → T (all (below n) f) → (q : ℕ) → q < n → T (f q)
 all-below n f t q l = all-upFrom 0 n f t q (omega arith) (omega arith)
@@ -82,33 +84,33 @@ module _ (S : Semiring) (n : ℕ) (grade : ℕ → S .Carrier) (uses : List (Use
 
   alikeTest-sound : (b : ℕ → ℕ) (p q : ℕ) → T (alikeTest b p q) → Alike S n grade uses b p q
   alikeTest-sound b p q t = (
-    S .equality .same-equal (grade p) (grade q) (and-first (S .equality .same (grade p) (grade q)) (all uses (levelTest b p q)) t),
+    S .equality .same-equal (grade p) (grade q) (and-l (S .equality .same (grade p) (grade q)) (all uses (levelTest b p q)) t),
     profile-met S uses b p q (each-implies (λ u. T (levelTest b p q u)) _ (λ u s _. S .equality .same-equal _ _ s) uses
-        (all-each uses (levelTest b p q) (and-second (S .equality .same (grade p) (grade q)) (all uses (levelTest b p q)) t))),
+        (all-each uses (levelTest b p q) (and-r (S .equality .same (grade p) (grade q)) (all uses (levelTest b p q)) t))),
   )
 
   alikeTest-complete : (b : ℕ → ℕ) (p q : ℕ) → Alike S n grade uses b p q → T (alikeTest b p q)
-  alikeTest-complete b p q h = and-both (S .equality .same (grade p) (grade q)) (all uses (levelTest b p q)) (equal-same (S .equality) (grade p) (grade q) (h .0))
+  alikeTest-complete b p q h = yes-and (S .equality .same (grade p) (grade q)) (all uses (levelTest b p q)) (equal-same (S .equality) (grade p) (grade q) (h .0))
       (all-of uses (levelTest b p q) (λ u. equal-same (S .equality) _ _ (h .1 (keyOf b u))))
 
   module _ (known : Each (λ u. Each (λ r. r < n) (u .through)) uses) where
     stay-covers : (b c : ℕ → ℕ) → T (allPairs n (stayTest b c)) → General.Covers n (Alike S n grade uses) b → General.Covers n (Alike S n grade uses) c
     stay-covers b c t = General.split-covers n (Alike S n grade uses) (alike-agreement S n grade uses known) b c
         (λ p q lp lq e h. eqb→eq (c p) (c q) (implies-holds (eqb (b p) (b q) && alikeTest b p q) (eqb (c p) (c q)) (allPairs-at n (stayTest b c) t p q lp lq)
-        (and-both (eqb (b p) (b q)) (alikeTest b p q) (equal-same numbers (b p) (b q) e) (alikeTest-complete b p q h))))
+        (yes-and (eqb (b p) (b q)) (alikeTest b p q) (equal-same numbers (b p) (b q) e) (alikeTest-complete b p q h))))
 
     pub reachTest-coarsest : (b : ℕ → ℕ) (cs : List (List ℕ)) (last : List ℕ) → General.Covers n (Alike S n grade uses) b → T (reachTest b cs last)
         → General.Coarsest n (Alike S n grade uses) (blockOf last)
     reachTest-coarsest b [] last up t = General.covers-coarsest n (Alike S n grade uses) (blockOf last)
         (record {
           agree = λ p q lp lq e. alikeTest-sound (blockOf last) p q (implies-holds (eqb (blockOf last p) (blockOf last q)) (alikeTest (blockOf last) p q)
-              (allPairs-at n (shareTest (blockOf last)) (and-second (allPairs n (stayTest b (blockOf last))) (allPairs n (shareTest (blockOf last))) t) p q lp lq)
+              (allPairs-at n (shareTest (blockOf last)) (and-r (allPairs n (stayTest b (blockOf last))) (allPairs n (shareTest (blockOf last))) t) p q lp lq)
               (equal-same numbers (blockOf last p) (blockOf last q) e));
         })
-        (stay-covers b (blockOf last) (and-first (allPairs n (stayTest b (blockOf last))) (allPairs n (shareTest (blockOf last))) t) up)
+        (stay-covers b (blockOf last) (and-l (allPairs n (stayTest b (blockOf last))) (allPairs n (shareTest (blockOf last))) t) up)
     reachTest-coarsest b (c ∷ cs) last up t = reachTest-coarsest (blockOf c) cs last
-        (stay-covers b (blockOf c) (and-first (allPairs n (stayTest b (blockOf c))) (reachTest (blockOf c) cs last) t) up)
-        (and-second (allPairs n (stayTest b (blockOf c))) (reachTest (blockOf c) cs last) t)
+        (stay-covers b (blockOf c) (and-l (allPairs n (stayTest b (blockOf c))) (reachTest (blockOf c) cs last) t) up)
+        (and-r (allPairs n (stayTest b (blockOf c))) (reachTest (blockOf c) cs last) t)
 
 -- the blocks are numbered by first use
 abbrev pub firstUseTest : ℕ → (ℕ → ℕ) → Bool
@@ -127,15 +129,15 @@ module _ (d : Direction) (X : Table) where
 
   pub coarsestTest-sound : Proper X → (between : List (List ℕ)) (last : List ℕ) → T (coarsestTest between last) → CoarsestBlocks d X last
   coarsestTest-sound proper between last t = record {
-    one-each = eqb→eq (length last) (X .states) (and-first (eqb (length last) (X .states)) others t);
-    first-use = firstUseTest-sound (X .states) (blockOf last) (and-first (firstUseTest (X .states) (blockOf last)) (reaches between last) rest);
+    one-each = eqb→eq (length last) (X .states) (and-l (eqb (length last) (X .states)) others t);
+    first-use = firstUseTest-sound (X .states) (blockOf last) (and-l (firstUseTest (X .states) (blockOf last)) (reaches between last) rest);
     coarsest = coarsest-by-profile d X proper (blockOf last) (reachTest-coarsest (arithmetic (X .arithmetic)) (X .states) (grade (X .arithmetic) d X) (uses (X .arithmetic) d (X .transitions))
         (uses-known (X .arithmetic) X (proper .transitions-proper) d) (λ q. 0) between last (λ c h. record { keeps = λ p q lp lq e. refl })
-        (and-second (firstUseTest (X .states) (blockOf last)) (reaches between last) rest));
+        (and-r (firstUseTest (X .states) (blockOf last)) (reaches between last) rest));
   }
     where
       others : Bool
       others = firstUseTest (X .states) (blockOf last) && reaches between last
 
       rest : T others
-      rest = and-second (eqb (length last) (X .states)) others t
+      rest = and-r (eqb (length last) (X .states)) others t

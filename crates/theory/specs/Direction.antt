@@ -29,6 +29,11 @@ pub side-forward : (side : ℕ) → side ≢ 0 → direction side ≡ forward
 side-forward zero h = absurd (h refl)
 side-forward (suc side) h = refl
 
+-- the other of the two
+abbrev pub other : Direction → Direction
+other backward = forward
+other forward = backward
+
 -- The codes of the table X, read in arithmetic a.
 module _ (a : ℕ) (X : Table) where
   -- the summed weights of σ's transitions with children in the blocks Ds and target q
@@ -55,12 +60,9 @@ module _ (a : ℕ) (X : Table) where
   Agree backward = AgreeBackward
   Agree forward = AgreeForward
 
--- b is a bisimulation of the table; some bisimulation relates two states; b is the coarsest
+-- b is a bisimulation of the table; b is the coarsest
 abbrev pub Bisimulation : Direction → Table → (ℕ → ℕ) → Type 0
 Bisimulation d X = General.Bisimulation (X .states) (Agree (X .arithmetic) X d)
-
-abbrev pub Related : Direction → Table → ℕ → ℕ → Type 0
-Related d X = General.Related (X .states) (Agree (X .arithmetic) X d)
 
 abbrev pub Coarsest : Direction → Table → (ℕ → ℕ) → Type 0
 Coarsest d X = General.Coarsest (X .states) (Agree (X .arithmetic) X d)

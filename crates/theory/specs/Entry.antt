@@ -1,20 +1,21 @@
 -- What a table lists for a symbol, children and a target.
 use mathlib.Core.Path.{_≡_, refl, sym, ap, _∙_}
 use mathlib.Core.Logic.{_≢_}
-use mathlib.Core.Bool.{Bool, true, false, _&&_, and-comm}
+use mathlib.Core.Bool.{Bool, true, false, cond, _&&_, and-comm}
 use mathlib.Core.List.{List, [], _∷_, _++_, map, List·Memᴰ}
 use Prim.Native.Nat.{ℕ, _<_}
 use native.Mathlib.Omega.{arith}
+use mir.Facts.{and-yes}
 use lib.Dec.{eqb, eqb→eq}
 use Rattle.model.specs.Table.{Transition, Each, key, Ascending}
-use Rattle.theory.specs.Each.{each-implies}
-use Rattle.theory.specs.Equality.{numbers, lists, sameList, sameList-equal, sameList-last, and-parts, equal-same}
+use Rattle.model.specs.Each.{each-implies}
+use Rattle.theory.specs.Equality.{numbers, lists, sameList, sameList-equal, sameList-last, equal-same}
 use Rattle.theory.specs.Sum.{only, sum-same, only-zero}
 use Rattle.theory.specs.Grouping.{keySum}
 use Rattle.theory.specs.Arithmetic.{arithmetic, Weight, meaning, meaning-zero}
 use Rattle.theory.specs.Weight.{entering, leaving}
 use Rattle.theory.specs.Order.{listOrder}
-use Rattle.theory.specs.Listing.{Rising, listed, listed-member, listings-met, listing-unique, sum-listed}
+use Rattle.theory.specs.Listing.{Rising, listed, listed-member, listed-holds, listings-met, listing-unique, sum-listed}
 
 -- the key of a transition of σ with children qs and target q
 abbrev pub keyAt : ℕ → List ℕ → ℕ → List ℕ
@@ -30,7 +31,12 @@ Between n t = Each (λ q. q < n) (t .children) × (t .target < n)
 
 -- the code that is listed for a key; 0 where none is
 abbrev pub codeAt : List Transition → List ℕ → ℕ
-codeAt ts k = listed lists listOrder key (λ t. t .code) 0 ts k
+codeAt [] k = 0
+codeAt (t ∷ ts) k = cond (sameList (key t) k) (t .code) (codeAt ts k)
+
+codeAt-listed : (ts : List Transition) (k : List ℕ) → codeAt ts k ≡ listed lists listOrder key (λ t. t .code) 0 ts k
+codeAt-listed [] k = refl
+codeAt-listed (t ∷ ts) k = ap (cond (sameList (key t) k) (t .code)) (codeAt-listed ts k)
 
 -- two keys are the same if their symbols, children and targets are
 pub same-keyAt : (σ τ : ℕ) (qs rs : List ℕ) (q r : ℕ) → sameList (keyAt σ qs q) (keyAt τ rs r) ≡ (eqb σ τ && (sameList qs rs && eqb q r))
@@ -38,8 +44,8 @@ same-keyAt σ τ qs rs q r = ap (_&&_ (eqb σ τ)) (sameList-last qs rs q r)
 
 pub keyAt-parts : (σ τ : ℕ) (qs rs : List ℕ) (q r : ℕ) → keyAt σ qs q ≡ keyAt τ rs r → (σ ≡ τ) × (qs ≡ rs) × (q ≡ r)
 keyAt-parts σ τ qs rs q r e =
-    let (s, m) = and-parts (eqb σ τ) (sameList qs rs && eqb q r) (rw (same-keyAt σ τ qs rs q r) at (equal-same lists (keyAt σ qs q) (keyAt τ rs r) e)) in
-    let (l, f) = and-parts (sameList qs rs) (eqb q r) m in
+    let (s, m) = and-yes (eqb σ τ) (sameList qs rs && eqb q r) (rw (same-keyAt σ τ qs rs q r) at (equal-same lists (keyAt σ qs q) (keyAt τ rs r) e)) in
+    let (l, f) = and-yes (sameList qs rs) (eqb q r) m in
     (eqb→eq σ τ s, sameList-equal qs rs l, eqb→eq q r f)
 
 -- the key and the code decide a transition
@@ -53,14 +59,21 @@ ascending-rising k (t ∷ ts) up = (up .0, ascending-rising (key t) ts (up .1))
 
 -- a transition's code is listed for its key
 pub codeAt-own : (ts : List Transition) → Ascending [] ts → {t : Transition} → List·Memᴰ t ts → codeAt ts (key t) ≡ t .code
-codeAt-own ts up = listed-member lists listOrder key (λ t. t .code) 0 [] ts (ascending-rising [] ts up)
+codeAt-own ts up {t} m = codeAt-listed ts (key t) ∙ listed-member lists listOrder key (λ t. t .code) 0 [] ts (ascending-rising [] ts up) m
+
+-- what holds of each code, and of 0, holds of what is listed
+pub codeAt-holds : (P : ℕ → Type 0) → P 0 → (ts : List Transition) → Each (λ t. P (t .code)) ts → (k : List ℕ) → P (codeAt ts k)
+codeAt-holds P z ts m k = rw (codeAt-listed ts k) (listed-holds lists listOrder key (λ t. t .code) 0 P z ts m k)
 
 -- ascending transitions without the code 0 are decided by what they list for the keys that either list has
 pub transitions-unique : (ts us : List Transition) → Ascending [] ts → Ascending [] us → Each (λ t. 0 < t .code) ts → Each (λ t. 0 < t .code) us
     → ((t : Transition) → List·Memᴰ t ts → codeAt ts (key t) ≡ codeAt us (key t)) → ((u : Transition) → List·Memᴰ u us → codeAt ts (key u) ≡ codeAt us (key u)) → ts ≡ us
 transitions-unique ts us up vp m n ht hu = listing-unique lists listOrder key (λ t. t .code) 0 transition-decided [] ts us
-    (ascending-rising [] ts up) (ascending-rising [] us vp) (nonzero ts m) (nonzero us n) (listings-met lists listOrder key (λ t. t .code) 0 ts us ht hu)
+    (ascending-rising [] ts up) (ascending-rising [] us vp) (nonzero ts m) (nonzero us n) (listings-met lists listOrder key (λ t. t .code) 0 ts us (λ t m. as-listed t (ht t m)) (λ u m. as-listed u (hu u m)))
   where
+    as-listed : (t : Transition) → codeAt ts (key t) ≡ codeAt us (key t) → listed lists listOrder key (λ t. t .code) 0 ts (key t) ≡ listed lists listOrder key (λ t. t .code) 0 us (key t)
+    as-listed t e = sym (codeAt-listed ts (key t)) ∙ e ∙ codeAt-listed us (key t)
+
     nonzero : (vs : List Transition) → Each (λ t. 0 < t .code) vs → Each (λ t. t .code ≢ 0) vs
     nonzero vs h = each-implies (λ t. 0 < t .code) (λ t. t .code ≢ 0) (λ t l e. omega arith) vs h
 
@@ -71,7 +84,7 @@ module _ (a : ℕ) where
   weightAtKey ts k = keySum (arithmetic a) lists ts key (λ t. meaning a (t .code)) k
 
   pub weightAtKey-listed : (ts : List Transition) → Ascending [] ts → (k : List ℕ) → weightAtKey ts k ≡ meaning a (codeAt ts k)
-  weightAtKey-listed ts up k = sum-listed lists listOrder key (λ t. t .code) 0 (arithmetic a) (meaning a) (meaning-zero a) [] k ts (ascending-rising [] ts up)
+  weightAtKey-listed ts up k = sum-listed lists listOrder key (λ t. t .code) 0 (arithmetic a) (meaning a) (meaning-zero a) [] k ts (ascending-rising [] ts up) ∙ ap (meaning a) (sym (codeAt-listed ts k))
 
   only-three : (s l e : Bool) (w : Weight a) → only (arithmetic a) l (only (arithmetic a) (s && e) w) ≡ only (arithmetic a) (s && (l && e)) w
   only-three true true e w = refl

@@ -4,6 +4,8 @@ use mathlib.Core.Logic.{_⊎_, inl, inr, _≢_}
 use mathlib.Core.Bool.{Bool, true, false, _&&_, and-true, and-false, and-assoc}
 use mathlib.Core.List.{List, [], _∷_, _++_}
 use Prim.Native.Nat.{ℕ}
+use mir.Facts.{yes-and}
+use store.Enc.{and-l, and-r}
 use lib.Dec.{T, eqb, eqb→eq, eqb-refl}
 
 -- a test that holds of equal members of a type and of no others
@@ -28,21 +30,6 @@ test-iff true true f g = refl
 test-iff true false f g = absurd (f tt)
 test-iff false true f g = absurd (g tt)
 test-iff false false f g = refl
-
-pub and-first : (c d : Bool) → T (c && d) → T c
-and-first true d t = tt
-and-first false d t = t
-
-pub and-second : (c d : Bool) → T (c && d) → T d
-and-second true d t = t
-and-second false d t = absurd t
-
-pub and-parts : (c d : Bool) → T (c && d) → T c × T d
-and-parts c d t = (and-first c d t, and-second c d t)
-
-pub and-both : (c d : Bool) → T c → T d → T (c && d)
-and-both true d s t = t
-and-both false d s t = s
 
 module _ {K : Type 0} (E : Equality K) where
   pub same-true : (a : K) → E .same a a ≡ true
@@ -87,11 +74,11 @@ sameList-equal [] [] t = refl
 sameList-equal [] (y ∷ ys) t = absurd t
 sameList-equal (x ∷ xs) [] t = absurd t
 sameList-equal (x ∷ xs) (y ∷ ys) t =
-    ap₂ _∷_ (eqb→eq x y (and-first (eqb x y) (sameList xs ys) t)) (sameList-equal xs ys (and-second (eqb x y) (sameList xs ys) t))
+    ap₂ _∷_ (eqb→eq x y (and-l (eqb x y) (sameList xs ys) t)) (sameList-equal xs ys (and-r (eqb x y) (sameList xs ys) t))
 
 pub sameList-self : (xs : List ℕ) → T (sameList xs xs)
 sameList-self [] = tt
-sameList-self (x ∷ xs) = and-both (eqb x x) (sameList xs xs) (eqb-refl x) (sameList-self xs)
+sameList-self (x ∷ xs) = yes-and (eqb x x) (sameList xs xs) (eqb-refl x) (sameList-self xs)
 
 -- lists with a last entry
 empty-last : (ys : List ℕ) (y : ℕ) → (sameList [] (ys ++ (y ∷ [])) ≡ false) × (sameList (ys ++ (y ∷ [])) [] ≡ false)
@@ -112,8 +99,8 @@ abbrev pub pairs : {A B : Type 0} → Equality A → Equality B → Equality (A 
 pairs E F = record {
   same = λ x y. E .same (x .0) (y .0) && F .same (x .1) (y .1);
   same-equal = λ x y t. λ i. (
-    E .same-equal (x .0) (y .0) (and-first (E .same (x .0) (y .0)) (F .same (x .1) (y .1)) t) i,
-    F .same-equal (x .1) (y .1) (and-second (E .same (x .0) (y .0)) (F .same (x .1) (y .1)) t) i,
+    E .same-equal (x .0) (y .0) (and-l (E .same (x .0) (y .0)) (F .same (x .1) (y .1)) t) i,
+    F .same-equal (x .1) (y .1) (and-r (E .same (x .0) (y .0)) (F .same (x .1) (y .1)) t) i,
   );
-  same-self = λ x. and-both (E .same (x .0) (x .0)) (F .same (x .1) (x .1)) (E .same-self (x .0)) (F .same-self (x .1));
+  same-self = λ x. yes-and (E .same (x .0) (x .0)) (F .same (x .1) (x .1)) (E .same-self (x .0)) (F .same-self (x .1));
 }

@@ -21,7 +21,7 @@ use Rattle.theory.specs.Collapse.{blockFinal, CollapsedByCoarsest}
 use Rattle.theory.specs.AddingUp.{member-names, namedSum, sums-by-entries, added-collapsedByCoarsest}
 
 -- the symbols: a = 0 of rank 0, g = 1 of rank 1
-abbrev a→ : ℕ → ℕ → Transition
+abbrev pub a→ : ℕ → ℕ → Transition
 a→ q c = record { symbol = 0; children = []; target = q; code = c }
 
 abbrev g→ : ℕ → ℕ → ℕ → Transition
@@ -120,7 +120,7 @@ proper a n fs ts h m up = record {
 properA : Proper tableA
 properA = proper 0 3 _ _ (omega arith) (omega arith) (omega arith)
 
-properB : Proper tableB
+pub properB : Proper tableB
 properB = proper 0 3 _ _ (omega arith) (omega arith) (omega arith)
 
 properC : Proper tableC

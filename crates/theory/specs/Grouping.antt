@@ -8,7 +8,7 @@ use native.Mathlib.Omega.{arith}
 use lib.Dec.{T}
 use lib.ListN.{length}
 use Rattle.model.specs.Table.{Each}
-use Rattle.theory.specs.Each.{each-members, each-member}
+use Rattle.model.specs.Each.{each-members, each-member}
 use Rattle.theory.specs.Equality.{Equality, equal-or-not, equal-same, same-true, false-differ, true-of, test-iff}
 use Rattle.theory.specs.Semiring.{Semiring}
 use Rattle.theory.specs.Sum.{only, sum, sum-same, sum-each, sum-zero, sum-exchange, sum-times, only-times, only-zero, only-not, times-only-one, zero-plus, sum-met}

@@ -6,7 +6,7 @@ use Prim.Native.Nat.{ℕ, _<_}
 use lib.Dec.{eqb}
 use Rattle.model.specs.Table.{Table, Transition, Each, ProperTransition, Proper}
 use Rattle.model.specs.Tree.{Tree, Forest, node, none, _then_, count}
-use Rattle.theory.specs.Each.{each-implies}
+use Rattle.model.specs.Each.{each-implies}
 use Rattle.theory.specs.Equality.{numbers, lists, sameList, same-comm}
 use Rattle.theory.specs.Semiring.{Semiring}
 use Rattle.theory.specs.Sum.{only, sum, sum-same, sum-each, sum-zero, sum-exchange, sum-exchange-only, sum-times, sum-times-sum, only-and, only-comm, only-sum, only-times, only-times-only}

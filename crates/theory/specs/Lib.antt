@@ -1,4 +1,3 @@
-pub mod Each
 pub mod Equality
 pub mod Semiring
 pub mod Sum
@@ -13,6 +12,7 @@ pub mod Sheet
 pub mod Bound
 pub mod Blocks
 pub mod Bisimulation
+pub mod Equivalence
 pub mod Direction
 pub mod Profile
 pub mod Uses

@@ -7,7 +7,7 @@ use native.Mathlib.Omega.{arith}
 use lib.Dec.{eqb}
 use lib.ListN.{getD}
 use Rattle.model.specs.Table.{Table, Transition, Each, key, ProperTransition, Proper}
-use Rattle.theory.specs.Each.{each-implies, each-getD, map-each}
+use Rattle.model.specs.Each.{each-implies, each-getD, map-each}
 use Rattle.theory.specs.Equality.{numbers, lists, sameList, equal-same, same-comm, true-of}
 use Rattle.theory.specs.Semiring.{Semiring}
 use Rattle.theory.specs.Sum.{only, sum-each}

@@ -6,7 +6,7 @@ use mathlib.Core.List.{List, [], _∷_, map, map-map}
 use Prim.Native.Nat.{ℕ, _<_}
 use lib.Dec.{eqb}
 use Rattle.model.specs.Table.{Each}
-use Rattle.theory.specs.Each.{each-implies, map-each}
+use Rattle.model.specs.Each.{each-implies, map-each}
 use Rattle.theory.specs.Equality.{Equality, numbers, lists, pairs, equal-or-not, false-differ}
 use Rattle.theory.specs.Semiring.{Semiring}
 use Rattle.theory.specs.Sum.{only, sum, sum-each, sum-zero, only-zero}

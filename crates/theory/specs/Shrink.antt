@@ -4,16 +4,11 @@ use Rattle.model.specs.Table.{Table, Proper}
 use Rattle.model.specs.Tree.{Tree}
 use Rattle.theory.specs.Weight.{value}
 use Rattle.theory.specs.Blocks.{blockOf}
-use Rattle.theory.specs.Direction.{Direction, backward, forward}
+use Rattle.theory.specs.Direction.{Direction, other}
 use Rattle.theory.specs.Collapse.{CollapsedByCoarsest, collapsedByCoarsest-unique}
 use Rattle.theory.specs.CollapseProper.{collapsedByCoarsest-proper}
 use Rattle.theory.specs.OwnBlocks.{collapsed-same}
 use Rattle.theory.specs.KeptWeight.{collapsedByCoarsest-value}
-
--- the side whose turn is next
-abbrev pub other : Direction → Direction
-other backward = forward
-other forward = backward
 
 -- a collapse from X to Y that ends the shrink: it merges no states
 abbrev pub Ends : Table → Table → Type 0

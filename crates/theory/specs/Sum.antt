@@ -26,14 +26,8 @@ module _ (S : Semiring) where
   pub zero-plus : (u : Carrier) → 𝟘 ⊕ u ≡ u
   zero-plus u = plus-comm 𝟘 u ∙ plus-zero u
 
-  pub one-times : (u : Carrier) → 𝟙 ⊗ u ≡ u
-  one-times u = times-comm 𝟙 u ∙ times-one u
-
   pub zero-times : (u : Carrier) → 𝟘 ⊗ u ≡ 𝟘
   zero-times u = times-comm 𝟘 u ∙ times-zero u
-
-  pub plus-times : (u v w : Carrier) → (u ⊕ v) ⊗ w ≡ u ⊗ w ⊕ v ⊗ w
-  plus-times u v w = rw (times-comm (u ⊕ v) w, times-comm u w, times-comm v w) (times-plus w u v)
 
   pub plus-left-comm : (u v w : Carrier) → u ⊕ (v ⊕ w) ≡ v ⊕ (u ⊕ w)
   plus-left-comm u v w = rw (← plus-assoc u v w, plus-comm u v) (plus-assoc v u w)

@@ -10,7 +10,7 @@ use lib.Dec.{eqb}
 use lib.ListN.{length, getD, take, drop}
 use lib.Seq.{length-take-le}
 use Rattle.model.specs.Table.{Table, Transition, Each, ProperTransition}
-use Rattle.theory.specs.Each.{each-implies, each-all, each-map, each-flatMap, each-take, each-drop, each-at}
+use Rattle.model.specs.Each.{each-implies, each-all, each-map, each-flatMap, each-take, each-drop}
 use Rattle.theory.specs.Equality.{numbers, sameList, same-comm, same-false}
 use Rattle.theory.specs.Semiring.{Semiring}
 use Rattle.theory.specs.Sum.{only, sum, sum-same, sum-each, sum-zero, sum-map, sum-flatMap, only-and, only-zero, only-comm}
@@ -19,7 +19,7 @@ use Rattle.theory.specs.Arithmetic.{arithmetic, Weight, meaning}
 use Rattle.theory.specs.Weight.{final, leaving}
 use Rattle.theory.specs.Bisimulation.{Agreement}
 use Rattle.theory.specs.Direction.{Direction, backward, forward, sumFrom, sumInto, AgreeForward, Agree}
-use Rattle.theory.specs.Profile.{Use, Key, keyOf, keys, counted, profile, profile-met, Independent, Alike, alike-agreement}
+use Rattle.theory.specs.Profile.{Use, Key, keyOf, keys, counted, profile, profile-met, Alike, alike-agreement}
 
 -- the list without its entry k
 abbrev pub others : ℕ → List ℕ → List ℕ
@@ -209,16 +209,3 @@ module _ (a : ℕ) where
       where
         A : Agreement (X .states) (AgreeByProfile X d)
         A = alike-agreement (arithmetic a) (X .states) (grade d X) (uses d (X .transitions)) (uses-known d)
-
-  -- backward, p depends on the children of the transitions into it; forward, on the targets of the transitions from it
-  pub independent-backward : (ts : List Transition) (b b′ : ℕ → ℕ) (p : ℕ) → Each (λ t. t .target ≡ p → Each (λ r. b r ≡ b′ r) (t .children)) ts
-      → Independent (arithmetic a) (uses backward ts) b b′ p
-  unfolding uses
-  independent-backward ts b b′ p m = each-map _ useInto ts m
-
-  pub independent-forward : (ts : List Transition) (b b′ : ℕ → ℕ) (p : ℕ) → Each (λ t. Each (λ q. q ≡ p → b (t .target) ≡ b′ (t .target)) (t .children)) ts
-      → Independent (arithmetic a) (uses forward ts) b b′ p
-  unfolding uses
-  independent-forward ts b b′ p m = each-flatMap _ _ ts (each-implies (λ t. Each (λ q. q ≡ p → b (t .target) ≡ b′ (t .target)) (t .children)) _
-      (λ t k. each-map _ (useAt t) (below (length (t .children))) (each-implies (λ i. i < length (t .children)) _
-      (λ i l e. (each-at (λ q. q ≡ p → b (t .target) ≡ b′ (t .target)) (t .children) i 0 k l e, tt)) (below (length (t .children))) (each-below (length (t .children))))) ts m)

@@ -3,7 +3,7 @@ use mathlib.Core.Path.{_≡_, _∙_}
 use mathlib.Core.List.{List, [], _∷_, map, flatMap}
 use Prim.Native.Nat.{ℕ, zero, suc, _<_}
 use Rattle.model.specs.Table.{Each}
-use Rattle.theory.specs.Each.{each-implies, each-map, each-flatMap}
+use Rattle.model.specs.Each.{each-implies, each-map, each-flatMap}
 use Rattle.theory.specs.Semiring.{Semiring}
 use Rattle.theory.specs.Sum.{sum, sum-same, sum-map, sum-flatMap}
 use Rattle.theory.specs.Below.{below, each-below}

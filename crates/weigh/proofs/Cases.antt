@@ -25,7 +25,7 @@ use Rattle.trees.specs.Read.{treeRead}
 use Rattle.trees.specs.Finished.{treeOf}
 use Rattle.trees.specs.Written.{accepted, nodes-are-bytes}
 use Rattle.weigh.specs.declared.Weighing.{Weighing}
-use Rattle.weigh.specs.Promise.{Asked, refused, withTree, answered, filled}
+use Rattle.weigh.specs.Asked.{Asked, refused, withTree, answered, filled}
 use Rattle.weigh.specs.Steps.{Summed}
 
 -- the promise, of what is asked

@@ -17,7 +17,7 @@ use Rattle.trees.specs.Subtrees.{starts, rankAt, subtree, starts-end, starts-no
 use Rattle.weigh.specs.Numbers.{StandsFor}
 use Rattle.weigh.specs.Steps.{Replaced}
 use Rattle.weigh.proofs.Replacing.{replaced-list}
-use Rattle.weigh.proofs.Sheets.{nodeRows, nodeRows-end, nodeRows-more, nodeRows-entry, getD-below, length-below}
+use Rattle.weigh.specs.Sheets.{nodeRows, nodeRows-end, nodeRows-more, nodeRows-entry, getD-below, length-below}
 use Rattle.weigh.proofs.Weights.{bounded-subtree}
 
 -- the nodes from `at` on are done

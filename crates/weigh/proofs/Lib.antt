@@ -5,7 +5,6 @@ pub mod Sums
 pub mod Adding
 pub mod Totalling
 pub mod Transitions
-pub mod Sheets
 pub mod Products
 pub mod Weights
 pub mod Filling

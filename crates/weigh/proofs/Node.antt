@@ -13,7 +13,7 @@ use lib.ListN.{length, getD, take, drop, length-drop}
 use lib.Seq.{length-take-le, getD-take, getD-drop}
 use Rattle.model.specs.Table.{Table, Each, ProperTransition}
 use Rattle.model.specs.Tree.{node}
-use Rattle.theory.specs.Each.{each-at}
+use Rattle.model.specs.Each.{each-at}
 use Rattle.theory.specs.Sum.{only, only-times, zero-times}
 use Rattle.theory.specs.Arithmetic.{arithmetic, Weight, meaning}
 use Rattle.theory.specs.Weight.{weightAt, productAt}

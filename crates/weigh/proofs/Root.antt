@@ -7,7 +7,7 @@ use native.Mathlib.Nat.{zero-mul, mul-le-mul-right, one-mul}
 use lib.IntN.{ℤ, pos}
 use lib.ListN.{length, getD, take, drop}
 use lib.Seq.{getD-take}
-use Rattle.theory.specs.Each.{each-at}
+use Rattle.model.specs.Each.{each-at}
 use Rattle.theory.specs.Sum.{sum}
 use Rattle.theory.specs.Below.{below}
 use Rattle.theory.specs.Arithmetic.{arithmetic, meaning}
@@ -21,7 +21,7 @@ use Rattle.weigh.specs.Numbers.{StandsFor, Good}
 use Rattle.weigh.specs.Steps.{Weighable, Summed}
 use Rattle.weigh.proofs.Bounds.{stands-weight, stands-good}
 use Rattle.weigh.proofs.Sums.{sum-range}
-use Rattle.weigh.proofs.Sheets.{sheets-one}
+use Rattle.weigh.specs.Sheets.{sheets-one}
 use Rattle.weigh.proofs.Filling.{Filling, filling-stands}
 use Rattle.weigh.proofs.Node.{tree-few}
 

@@ -8,7 +8,7 @@ use lib.ListN.{length, getD, drop, length-append, length-drop}
 use lib.Seq.{drop-cons}
 use Rattle.model.specs.Table.{Table, Transition, Each, Proper, ProperTransition}
 use Rattle.model.specs.Tree.{Tree, prefix, prefixes}
-use Rattle.theory.specs.Each.{each-implies}
+use Rattle.model.specs.Each.{each-implies}
 use Rattle.theory.specs.Bound.{within-more, weightAt-within}
 use Rattle.theory.specs.Weight.{weightAt}
 use Rattle.trees.specs.Forests.{takeTrees, dropTrees}

@@ -1,6 +1,9 @@
+pub mod Asked
 pub mod Promise
 pub mod Examples
 pub mod Numbers
 pub mod Index
 pub mod Rows
 pub mod Steps
+pub mod Sheets
+pub mod Wrong

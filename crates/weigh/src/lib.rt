@@ -14,7 +14,8 @@ ghost use Rattle.theory.specs.Below.{below};
 ghost use Rattle.trees.specs.Read.{treeRead};
 ghost use Rattle.tables.specs.Record.{columns, tableIn, tableOf};
 ghost use Rattle.arith.specs.Numbers.{numberOf, weightOf};
-ghost use Rattle.weigh.specs.Promise.{refused as refusing, withTree, answered, filled, Weighed};
+ghost use Rattle.weigh.specs.Asked.{refused as refusing, withTree, answered, filled};
+ghost use Rattle.weigh.specs.Promise.{Weighed};
 ghost use Rattle.weigh.specs.Numbers.{StandsFor, Good};
 ghost use Rattle.weigh.specs.Index.{Begins, Rising};
 ghost use Rattle.weigh.specs.Rows.{rowOf, sources, productOf, sumInto, Sized, Ready, Added, RowReady};
@@ -28,7 +29,7 @@ pub struct Weighing {
 }
 
 // Weighs a tree by a table. Done, the sheet holds at node × n + state the weight of the node's subtree at that state. It takes some
-// 170 KB of stack: the record and its copies, the transitions' numbers and the offsets.
+// 200 KB of stack: the record and its copies, the transitions' numbers and the offsets.
 pub fn weigh(table: &[u8], tree: &[u8], sheet: &mut [i64]) -> Weighing
     ensures { λ r. ⌜ Weighed (now (table .entry)) (now (tree .entry)) (now (sheet .entry)) r (now (sheet .exit)) ⌝ }
 {

@@ -4,6 +4,7 @@ use mathlib.Core.Path.{_≡_, ap}
 use native.Mathlib.Omega.{arith}
 use lib.ListN.{length, getD, take}
 use lib.Seq.{getD-take}
+use Rattle.model.specs.Each.{each-getD}
 use Rattle.model.specs.Table.{ProperTransition}
 use Rattle.numbers.specs.Written.{written, writtenAll}
 use Rattle.format.specs.Written.{transitionsNumbers, bytesOf}
@@ -12,7 +13,6 @@ use Rattle.tables.specs.Steps.{Long}
 use Rattle.tables.specs.declared.TableRecord.{TableRecord}
 use Rattle.roundtrip.specs.Length.{length-table, table-length}
 use Rattle.tables.specs.Rows.{columnsOf, rows-length, each-row}
-use Rattle.roundtrip.specs.Members.{each-at}
 use Rattle.writer.specs.Writable.{RowInside, Writable}
 
 module _ (r : TableRecord) (w : Writable r) where
@@ -37,7 +37,7 @@ module _ (r : TableRecord) (w : Writable r) where
       let few = few-symbols in
       let few-t = few-transitions in
       let σ : ℕ = getD (r .symbol) j 0 in
-      let small : getD (take (r .symbols) (r .ranks)) σ 0 ≤ 4 = each-at (λ k. k ≤ 4) (take (r .symbols) (r .ranks)) 0 (omega arith) (w .proper .ranks-small) σ in
+      let small : getD (take (r .symbols) (r .ranks)) σ 0 ≤ 4 = each-getD (λ k. k ≤ 4) (take (r .symbols) (r .ranks)) σ 0 (w .proper .ranks-small) (omega arith) in
       let same : getD (take (r .symbols) (r .ranks)) σ 0 ≡ getD (r .ranks) σ 0 = getD-take (r .symbols) (r .ranks) σ 0 (omega arith) in
       record {
         symbol = omega (arith, long .symbol);

@@ -6,7 +6,7 @@ use native.Mathlib.Omega.{arith}
 use native.Mathlib.Decide.{decLt}
 use lib.ListN.{length}
 use Rattle.numbers.specs.Written.{groups, written}
-use Rattle.roundtrip.specs.Numbers.{groups-last, groups-more, written-one}
+use Rattle.roundtrip.specs.Numbers.{groups-last, groups-more, two-bytes}
 
 -- what g more groups can hold
 abbrev bound : ℕ → ℕ
@@ -31,9 +31,6 @@ written-long n h k = groups-more 3 n h ∙ ap (λ (l : List ℕ). (128 + n % 128
 
 one-more : (n : ℕ) → 128 ≤ n → n < 2 ^ 32 → length (written n) ≡ length (written (n / 128)) + 1
 one-more n h k = rw (written-long n h k) (omega arith)
-
-pub two-bytes : (n : ℕ) → 128 ≤ n → n < 16384 → length (written n) ≡ 2
-two-bytes n h k = omega (arith, one-more n h (omega arith), written-one (n / 128) (omega arith))
 
 pub three-bytes : (n : ℕ) → 16384 ≤ n → n < 2097152 → length (written n) ≡ 3
 three-bytes n h k = omega (arith, one-more n (omega arith) (omega arith), two-bytes (n / 128) (omega arith) (omega arith))

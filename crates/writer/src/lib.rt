@@ -3,7 +3,7 @@
 use tables::TableRecord;
 ghost use mathlib.Core.Path.{_≡_};
 ghost use Prim.Native.Nat.{ℕ, _+_, _*_, _≤_, _<_, _^_};
-ghost use lib.ListN.{length, getD, take, drop};
+ghost use lib.ListN.{length, take, drop};
 ghost use Rattle.numbers.specs.Written.{written, writtenAll};
 ghost use Rattle.format.specs.Written.{transitionNumbers, transitionsNumbers, bytesOf};
 ghost use Rattle.tables.specs.Record.{columns, rowAt, rowsFrom, tableOf};

@@ -2,12 +2,11 @@
 -- Assumes nothing.
 use Prim.Native.Nat.{ℕ, _-_, _*_, _+_, _≤_, _<_}
 use mathlib.Core.Path.{_≡_, sym, ap, ap₂, _∙_}
-use mathlib.Core.List.{List, map}
+use mathlib.Core.List.{List, [], _∷_, map}
 use native.Mathlib.Omega.{arith}
 use lib.ListN.{length, getD}
 use Rattle.theory.specs.Blocks.{blockOf}
-use Rattle.adding.specs.Keys.{packed}
-use Rattle.adding.proofs.Packing.{room-few, packed-last}
+use Rattle.profiles.specs.Packing.{packed, packed-append, room, room-ascends}
 use Rattle.adding.proofs.Children.{kidsOf, kids-many, kids-at, Keying, keying-starts, keying-goes-on, keying-ends}
 use borrow.Author.Needs.{needs}
 use Rattle.adding.proofs.key_of.Statement.{statement}
@@ -48,7 +47,8 @@ many c =
 packed-few : (c : tie.At-loop Inv-loop μ-loop) → c .loop .packed < 4294967296
 packed-few c =
     let few : c .loop .k ≤ 4 = omega (arith, many c, rank-few c, c .loop .inv .some) in
-    omega (arith, room-few (c .loop .k) few, c .loop .inv .fits)
+    let most : room (c .loop .k) ≤ 4294967296 = room-ascends (c .loop .k) 4 few in
+    omega (arith, c .loop .inv .fits)
 
 loop-holds : tie.Need-loop-holds Inv-loop μ-loop
 loop-holds c = keying-starts _ _
@@ -132,7 +132,7 @@ returns c =
     keying-ends _ _ (l .packed) (l .k) (l .inv) (omega (arith, many (c .before .before .before .before), c .before .before .before .loop-test .left))
     ∙ ap (λ (k : ℕ). packed 0 (map (blockOf (s .args .digits .now)) (kidsOf (s .args .children .now) k (s .args .j)))) (rank-is (c .before .before .before .before)) in
     ap₂ (λ (σ n : ℕ). σ * 1099511627776 + n) (c .before .before .long .ensures .0)
-    (ap₂ (λ (n D : ℕ). n * 256 + D) whole (c .digit-of2 .ensures .1) ∙ sym (packed-last 0 (map (blockOf (s .args .digits .now)) kids) _))
+    (ap₂ (λ (n D : ℕ). n * 256 + D) whole (c .digit-of2 .ensures .1) ∙ sym (packed-append 0 (map (blockOf (s .args .digits .now)) kids) (_ ∷ [])))
 
 pub key-of-spec : {M : Type 1} → statement M
 key-of-spec =

@@ -1,6 +1,6 @@
 -- `calls::check` meets its contract: the reader's answer is the answer.
 -- Assumes nothing.
-use Rattle.calls.proofs.Readings.{reading-checks}
+use Rattle.calls.specs.Readings.{reading-checks}
 use borrow.Author.Needs.{needs}
 use Rattle.calls.proofs.check.Statement.{statement}
 use Rattle.calls.proofs.check.Tie as tie

@@ -1,7 +1,7 @@
 -- `calls::rewrite` meets its contract: each return is one case of the promise.
 -- Assumes nothing.
 use Rattle.format.specs.Read.{tableRead}
-use Rattle.calls.proofs.Readings.{Taken, reading-taken, reading-refused, taken-writable, written-is, rewrites-short, rewrites-done, rewrites-refused}
+use Rattle.calls.specs.Readings.{Taken, reading-taken, reading-refused, taken-writable, written-is, rewrites-short, rewrites-done, rewrites-refused}
 use borrow.Author.Needs.{needs}
 use Rattle.calls.proofs.rewrite.Statement.{statement}
 use Rattle.calls.proofs.rewrite.Tie as tie

@@ -5,7 +5,7 @@ use mathlib.Core.Path.{sym, ap, ap₂, _∙_}
 use Rattle.format.specs.Read.{tableRead}
 use Rattle.calls.specs.declared.SizeRead.the-variants as size
 use Rattle.calls.specs.Picking.{sizeOf}
-use Rattle.calls.proofs.Readings.{reading-taken, reading-refused, taken-count}
+use Rattle.calls.specs.Readings.{reading-taken, reading-refused, taken-count}
 use borrow.Author.Needs.{needs}
 use Rattle.calls.proofs.size_of.Statement.{statement}
 use Rattle.calls.proofs.size_of.Tie as tie

@@ -2,7 +2,7 @@
 -- Assumes nothing.
 use native.Mathlib.Omega.{arith}
 use Rattle.format.specs.Read.{tableRead}
-use Rattle.calls.proofs.Readings.{Taken, reading-taken, reading-refused}
+use Rattle.calls.specs.Readings.{Taken, reading-taken, reading-refused}
 use Rattle.collapse.proofs.Cases.{taken-readable, taken-states, blocks-no-direction, blocks-refused, blocks-done}
 use borrow.Author.Needs.{needs}
 use Rattle.collapse.proofs.blocks.Statement.{statement}

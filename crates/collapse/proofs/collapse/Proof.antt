@@ -4,7 +4,7 @@ use Rattle.format.specs.Read.{tableRead}
 use Rattle.tables.specs.Record.{tableOf}
 use Rattle.theory.specs.Direction.{direction as sideOf}
 use Rattle.theory.specs.Collapse.{CollapsedByCoarsest}
-use Rattle.calls.proofs.Readings.{Taken, reading-taken, reading-refused}
+use Rattle.calls.specs.Readings.{Taken, reading-taken, reading-refused}
 use Rattle.collapse.proofs.Cases.{readable-writable, taken-readable, put-no-direction, put-refused, put-done}
 use borrow.Author.Needs.{needs}
 use Rattle.collapse.proofs.collapse.Statement.{statement}

@@ -8,7 +8,7 @@ use lib.ListN.{length}
 use Rattle.format.specs.Written.{bytesOf}
 use Rattle.roundtrip.specs.Length.{table-length}
 use Rattle.tables.specs.Record.{tableOf}
-use Rattle.writer.proofs.Fields.{count-is}
+use Rattle.tables.specs.Rows.{columnsOf, rows-length}
 use Rattle.collapse.proofs.Fitting.{next-length, put-filled, room-kept, table-fitted, table-short}
 use borrow.Author.Needs.{needs}
 use Rattle.collapse.proofs.put_table.Statement.{statement}
@@ -41,7 +41,7 @@ returns-2 : tie.Need-returns-2
 returns-2 c =
     let a = c .before .before .before .before .before .before .args in
     let h = form-fits (c .before .before .before .before) in (
-      table-fitted (tableOf (a .table)) (a .room .now) (c .before .before .write .result) (a .table .states) (a .table .count) h (next-length _ (a .room .now) (bytesOf (tableOf (a .table))) (c .before .before .write .result) (c .before .before .write .ensures) h) refl (sym (count-is (a .table) (c .before .before .before .before .before .before .pre))),
+      table-fitted (tableOf (a .table)) (a .room .now) (c .before .before .write .result) (a .table .states) (a .table .count) h (next-length _ (a .room .now) (bytesOf (tableOf (a .table))) (c .before .before .write .result) (c .before .before .write .ensures) h) refl (sym (rows-length (columnsOf (a .table)) 0 (a .table .count))),
       put-filled _ (a .room .now) (bytesOf (tableOf (a .table))) (c .before .before .write .result) (c .before .before .write .ensures) h,
     )
 

@@ -3,7 +3,7 @@
 use Prim.Native.Nat.{_≤_}
 use native.Mathlib.Omega.{arith}
 use borrow.Author.Needs.{needs}
-use Rattle.calls.proofs.Readings.{reading-taken, taken-proper}
+use Rattle.calls.specs.Readings.{reading-taken, taken-proper}
 use Rattle.inspect.proofs.show.Statement.{statement}
 use Rattle.inspect.proofs.show.Tie as tie
 

@@ -4,6 +4,7 @@ use mathlib.Core.Path.{refl}
 use native.Mathlib.Omega.{arith}
 use Rattle.format.specs.Read.{tableRead}
 use Rattle.roundtrip.specs.Tables.{table-sound}
+use Rattle.weigh.specs.Promise.{asked-weighed}
 use Rattle.weigh.proofs.Cases.{ReadTable, table-read, table-refused}
 use borrow.Author.Needs.{needs}
 use Rattle.weigh.proofs.weigh.Statement.{statement}
@@ -39,13 +40,13 @@ returns : tie.Need-returns
 returns c =
     let w = c .before .weigh-tree .ensures in
     let found = read (c .before .before .before) .is-found in
-    record { answer = rw found (w .0); sheet = rw found (w .1) }
+    asked-weighed _ _ _ _ (c .before .before .before .before .before .before .before .before .args .table .now) (rw found (w .0), rw found (w .1))
 
 returns-2 : tie.Need-returns-2
 returns-2 c =
     let k = c .before .before in
     let found = table-refused (tableRead (k .before .before .before .before .before .args .table .now)) (k .before .before .read .result) _ (k .before .before .read .ensures) (k .answer .given .1) in
-    record { answer = rw found (c .refused .ensures); sheet = rw found refl }
+    asked-weighed _ _ _ _ (k .before .before .before .before .before .args .table .now) (rw found (c .refused .ensures), rw found refl)
 
 pub weigh-spec : {M : Type 1} → statement M
 weigh-spec =

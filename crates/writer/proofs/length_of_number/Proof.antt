@@ -2,8 +2,8 @@
 -- Assumes nothing.
 use mathlib.Core.Path.{sym}
 use native.Mathlib.Omega.{arith}
-use Rattle.roundtrip.specs.Numbers.{written-one}
-use Rattle.writer.proofs.Short.{two-bytes, three-bytes, four-bytes, five-bytes}
+use Rattle.roundtrip.specs.Numbers.{written-one, two-bytes}
+use Rattle.writer.proofs.Short.{three-bytes, four-bytes, five-bytes}
 use Rattle.writer.proofs.length_of_number.Statement.{statement}
 use Rattle.writer.proofs.length_of_number.Tie as tie
 

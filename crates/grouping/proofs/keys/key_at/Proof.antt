@@ -8,14 +8,15 @@ use native.Mathlib.Omega.{arith}
 use borrow.Author.Needs.{needs}
 use lib.ListN.{getD, take, drop}
 use Rattle.theory.specs.Uses.{others}
-use Rattle.grouping.specs.Keys
-use Rattle.grouping.specs.Packing.{room, room-next, room-more, room-few, children-end, elsewhere, elsewhere-others, packing-next, packing-skips}
+use Rattle.profiles.specs.Packing
+use Rattle.profiles.specs.Packing.{room, room-next, room-more, room-ascends}
+use Rattle.grouping.specs.Packing.{children-end, elsewhere, elsewhere-others, packing-next, packing-skips}
 use Rattle.grouping.proofs.keys.key_at.Statement.{statement}
 use Rattle.grouping.proofs.keys.key_at.Tie as tie
 
 abbrev Inv-loop : tie.InvT-loop
 Inv-loop u ranks symbol children target digits j place own rank packed₀ k₀ packed k =
-    (k ≤ rank) × (Keys.packed packed (elsewhere place k (drop k (take rank (drop (j * 4) children)))) ≡ Keys.packed place (others place (take rank (drop (j * 4) children)))) × (packed < room (k + 1))
+    (k ≤ rank) × (Packing.packed packed (elsewhere place k (drop k (take rank (drop (j * 4) children)))) ≡ Packing.packed place (others place (take rank (drop (j * 4) children)))) × (packed < room (k + 1))
 
 abbrev μ-loop : tie.MeasureT-loop
 μ-loop u ranks symbol children target digits j place own rank packed₀ k₀ packed k = rank - k
@@ -42,10 +43,11 @@ rank-few c = rw (rank-is (c .before)) (c .before .before .before .before .before
 packed-few : (c : tie.At-loop Inv-loop μ-loop) → c .loop .packed < 1099511627776
 packed-few c =
     let few : c .loop .k + 1 ≤ 5 = omega (arith, rank-is c, c .before .before .before .before .before .pre .3 .rank-small) in
-    omega (arith, room-few (c .loop .k + 1) few)
+    let most : room (c .loop .k + 1) ≤ 1099511627776 = room-ascends (c .loop .k + 1) 5 few in
+    omega arith
 
 loop-holds : tie.Need-loop-holds Inv-loop μ-loop
-loop-holds c = (omega arith, ap (Keys.packed (c .before .before .before .before .args .u % 4)) (elsewhere-others (c .before .before .before .before .args .u % 4) (take (c .wide2 .result) (drop (c .before .before .before .before .args .u / 4 * 4) (c .before .before .before .before .args .children .now)))), omega arith)
+loop-holds c = (omega arith, ap (Packing.packed (c .before .before .before .before .args .u % 4)) (elsewhere-others (c .before .before .before .before .args .u % 4) (take (c .wide2 .result) (drop (c .before .before .before .before .args .u / 4 * 4) (c .before .before .before .before .args .children .now)))), omega arith)
 
 mul-packed : tie.Need-mul-packed Inv-loop μ-loop
 mul-packed c = let most = packed-few (c .before .before) in omega arith
@@ -128,10 +130,10 @@ returns : tie.Need-returns Inv-loop μ-loop
 returns c =
     let a = c .before .before .before .before .before .before .before .before .before .before .args in
     let l = c .before .before .before .before .before .loop in
-    let done : l .packed ≡ Keys.packed (a .u % 4) (others (a .u % 4) (take (c .before .before .before .before .before .before .wide2 .result) (drop (a .u / 4 * 4) (a .children .now)))) =
-    sym (ap (λ (qs : List ℕ). Keys.packed (l .packed) (elsewhere (a .u % 4) (l .k) qs)) (children-end (drop (a .u / 4 * 4) (a .children .now)) (c .before .before .before .before .before .before .wide2 .result) (l .k) (c .before .before .before .before .loop-test .left))) ∙ l .inv .1 in
-    let whole : l .packed ≡ Keys.packed (0 + a .u % 4) (others (a .u % 4) (take (getD (a .ranks .now) (getD (a .symbol .now) (a .u / 4) 0) 0) (drop (a .u / 4 * 4) (a .children .now)))) =
-    done ∙ ap₂ (λ (n r : ℕ). Keys.packed n (others (a .u % 4) (take r (drop (a .u / 4 * 4) (a .children .now))))) (sym (zero-add (a .u % 4))) (rank-is (c .before .before .before .before .before)) in
+    let done : l .packed ≡ Packing.packed (a .u % 4) (others (a .u % 4) (take (c .before .before .before .before .before .before .wide2 .result) (drop (a .u / 4 * 4) (a .children .now)))) =
+    sym (ap (λ (qs : List ℕ). Packing.packed (l .packed) (elsewhere (a .u % 4) (l .k) qs)) (children-end (drop (a .u / 4 * 4) (a .children .now)) (c .before .before .before .before .before .before .wide2 .result) (l .k) (c .before .before .before .before .loop-test .left))) ∙ l .inv .1 in
+    let whole : l .packed ≡ Packing.packed (0 + a .u % 4) (others (a .u % 4) (take (getD (a .ranks .now) (getD (a .symbol .now) (a .u / 4) 0) 0) (drop (a .u / 4 * 4) (a .children .now)))) =
+    done ∙ ap₂ (λ (n r : ℕ). Packing.packed n (others (a .u % 4) (take r (drop (a .u / 4 * 4) (a .children .now))))) (sym (zero-add (a .u % 4))) (rank-is (c .before .before .before .before .before)) in
     ap₂ (λ (x y : ℕ). x * 1099511627776 + y) (c .before .before .before .long2 .ensures .0) (ap₂ (λ (x y : ℕ). x * 256 + y) whole (ap (λ (q : ℕ). getD (a .digits .now) q 0) (c .before .wide3 .ensures .0)))
 
 pub key-at-spec : {M : Type 1} → statement M

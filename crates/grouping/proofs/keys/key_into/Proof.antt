@@ -6,14 +6,15 @@ use native.Mathlib.Omega.{arith}
 use borrow.Author.Needs.{needs}
 use lib.ListN.{getD, take, drop}
 use Rattle.theory.specs.Blocks.{blockOf}
-use Rattle.grouping.specs.Keys
-use Rattle.grouping.specs.Packing.{room, room-next, room-few, children-next, children-end}
+use Rattle.profiles.specs.Packing
+use Rattle.profiles.specs.Packing.{room, room-next, room-ascends}
+use Rattle.grouping.specs.Packing.{children-next, children-end}
 use Rattle.grouping.proofs.keys.key_into.Statement.{statement}
 use Rattle.grouping.proofs.keys.key_into.Tie as tie
 
 abbrev Inv-loop : tie.InvT-loop
 Inv-loop j ranks symbol children digits own rank packed₀ k₀ packed k =
-    (k ≤ rank) × (Keys.packed packed (map (blockOf digits) (drop k (take rank (drop (j * 4) children)))) ≡ Keys.packed 0 (map (blockOf digits) (take rank (drop (j * 4) children)))) × (packed < room k)
+    (k ≤ rank) × (Packing.packed packed (map (blockOf digits) (drop k (take rank (drop (j * 4) children)))) ≡ Packing.packed 0 (map (blockOf digits) (take rank (drop (j * 4) children)))) × (packed < room k)
 
 abbrev μ-loop : tie.MeasureT-loop
 μ-loop j ranks symbol children digits own rank packed₀ k₀ packed k = rank - k
@@ -40,7 +41,8 @@ rank-few c = rw (rank-is (c .before)) (c .before .before .before .before .before
 packed-few : (c : tie.At-loop Inv-loop μ-loop) → c .loop .packed < 1099511627776
 packed-few c =
     let few : c .loop .k ≤ 5 = omega (arith, rank-is c, c .before .before .before .before .before .pre .5 .rank-small) in
-    omega (arith, room-few (c .loop .k) few)
+    let most : room (c .loop .k) ≤ 1099511627776 = room-ascends (c .loop .k) 5 few in
+    omega arith
 
 loop-holds : tie.Need-loop-holds Inv-loop μ-loop
 loop-holds c = search needs
@@ -88,7 +90,7 @@ loop-again c =
     let l = c .before .before .before .before .loop in
     let more = c .before .before .before .loop-test .taken in
     let next = children-next (a .children .now) (a .j) (c .before .before .before .before .before .wide2 .result) (l .k) (h .2) (h .5 .inside) (rank-few (c .before .before .before)) more in
-    (omega arith, rw (c .before .wide3 .ensures .0) (sym (ap (λ (qs : List ℕ). Keys.packed (l .packed) (map (blockOf (a .digits .now)) qs)) next) ∙ l .inv .1), room-next (l .packed) (l .k) _ (l .inv .2) (h .4 (c .before .wide3 .result)))
+    (omega arith, rw (c .before .wide3 .ensures .0) (sym (ap (λ (qs : List ℕ). Packing.packed (l .packed) (map (blockOf (a .digits .now)) qs)) next) ∙ l .inv .1), room-next (l .packed) (l .k) _ (l .inv .2) (h .4 (c .before .wide3 .result)))
 
 long-requires : tie.Need-long-requires Inv-loop μ-loop
 long-requires c κs = search needs
@@ -103,9 +105,9 @@ returns : tie.Need-returns Inv-loop μ-loop
 returns c =
     let a = c .before .before .before .before .before .before .before .args in
     let l = c .before .before .loop in
-    let done : Keys.packed (l .packed) (map (blockOf (a .digits .now)) (drop (l .k) (take (c .before .before .before .wide2 .result) (drop (a .j * 4) (a .children .now))))) ≡ l .packed =
-    ap (λ (qs : List ℕ). Keys.packed (l .packed) (map (blockOf (a .digits .now)) qs)) (children-end (drop (a .j * 4) (a .children .now)) (c .before .before .before .wide2 .result) (l .k) (c .before .loop-test .left)) in
-    ap₂ (λ (σ n : ℕ). σ * 1099511627776 + n) (c .long .ensures .0) (sym done ∙ l .inv .1 ∙ ap (λ (r : ℕ). Keys.packed 0 (map (blockOf (a .digits .now)) (take r (drop (a .j * 4) (a .children .now))))) (rank-is (c .before .before)))
+    let done : Packing.packed (l .packed) (map (blockOf (a .digits .now)) (drop (l .k) (take (c .before .before .before .wide2 .result) (drop (a .j * 4) (a .children .now))))) ≡ l .packed =
+    ap (λ (qs : List ℕ). Packing.packed (l .packed) (map (blockOf (a .digits .now)) qs)) (children-end (drop (a .j * 4) (a .children .now)) (c .before .before .before .wide2 .result) (l .k) (c .before .loop-test .left)) in
+    ap₂ (λ (σ n : ℕ). σ * 1099511627776 + n) (c .long .ensures .0) (sym done ∙ l .inv .1 ∙ ap (λ (r : ℕ). Packing.packed 0 (map (blockOf (a .digits .now)) (take r (drop (a .j * 4) (a .children .now))))) (rank-is (c .before .before)))
 
 pub key-into-spec : {M : Type 1} → statement M
 key-into-spec =

@@ -30,7 +30,7 @@ array-read-size : tie.Need-array-read-size Inv-loop μ-loop
 array-read-size c = search needs
 
 add-size : tie.Need-add-size Inv-loop μ-loop
-add-size c = omega (arith, c .before .before .before .loop .inv .sizes-few (c .wide .result), c .before .before .before .loop .inv .some)
+add-size c = omega (arith, c .before .before .before .loop .inv .sizes-few (c .wide .result) (c .wide .ensures .1), c .before .before .before .loop .inv .some)
 
 mul-sizes : tie.Need-mul-sizes Inv-loop μ-loop
 mul-sizes c = search needs

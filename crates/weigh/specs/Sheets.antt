@@ -17,6 +17,10 @@ use Rattle.arith.specs.Numbers.{numberOf}
 use Rattle.trees.specs.Forests.{takeTrees, dropTrees}
 use Rattle.trees.specs.Finished.{finished, firstTree}
 use Rattle.trees.specs.Subtrees.{subtree}
+use Rattle.trees.specs.declared.TreeRead.the-variants.{Nodes}
+use Rattle.trees.specs.Read.{treeRead}
+use Rattle.trees.specs.Finished.{treeOf}
+use Rattle.trees.specs.Written.{accepted}
 
 -- an entry of a list that is made from the numbers from i on
 getD-upFrom : (f : ℕ → ℤ) (i k q : ℕ) (d : ℤ) → q < k → getD (map f (upFrom i k)) q d ≡ f (i + q)
@@ -80,3 +84,11 @@ module _ (a : ℕ) (X : Table) where
         (getD-append-add own (nodeRows tree (at + 1) ++ behind) (d * X .states + q) (pos 0)
         ∙ nodeRows-entry behind d (at + 1) q (omega arith) known
         ∙ ap (λ (i : ℕ). numberOf a (weightAt a X (subtree (X .ranks) tree i) q)) offset)
+
+    -- The sheet of a tree holds at node × n + state the weight of the node's subtree at that state, whatever stands behind it.
+    pub sheet-entry : (nodes : ℕ) → treeRead (X .ranks) tree ≡ Nodes nodes → (behind : List ℤ) (at q : ℕ) → at < nodes → q < X .states
+        → getD (sheet a X (treeOf (X .ranks) tree) ++ behind) (at * X .states + q) (pos 0) ≡ numberOf a (weightAt a X (subtree (X .ranks) tree at) q)
+    sheet-entry nodes read behind at q inside known =
+        let whole = accepted (X .ranks) tree nodes read in
+        rw (← sheets-one (finished (X .ranks) tree) (whole .count-is)) (nodeRows-entry behind at 0 q (omega (arith, whole .nodes-are)) known
+        ∙ ap (λ (i : ℕ). numberOf a (weightAt a X (subtree (X .ranks) tree i) q)) (zero-add at))

@@ -20,7 +20,7 @@ use Rattle.tables.specs.declared.TableRecord.{TableRecord}
 use Rattle.roundtrip.specs.Tables.{table-sound}
 use Rattle.writer.specs.Put.{Put}
 use Rattle.writer.specs.Writable.{Writable}
-use Rattle.writer.proofs.Fields.{count-is}
+use Rattle.tables.specs.Rows.{columnsOf, rows-length}
 use Rattle.calls.specs.Answers.{checked, Checks, fits, Rewrites}
 
 pub reading-checks : (table : List ℕ) (r : Reading) → ReadingIs (tableRead table) r → Checks table (r .answer)
@@ -61,7 +61,7 @@ module _ (table : List ℕ) (bytes : (i : ℕ) → getD table i 0 < 256) (n : �
       }
 
   pub taken-count : r .count ≡ length (t .table .transitions)
-  taken-count = sym (count-is r taken-writable) ∙ ap (λ (X : Table). length (X .transitions)) (t .holds .table)
+  taken-count = sym (rows-length (columnsOf r) 0 (r .count)) ∙ ap (λ (X : Table). length (X .transitions)) (t .holds .table)
 
   pub written-is : bytesOf (tableOf r) ≡ table
   written-is = ap bytesOf (t .holds .table) ∙ sym taken-bytes
