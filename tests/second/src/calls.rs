@@ -153,11 +153,67 @@ fn try_weigh(table: &[u8], tree: &[u8], sheet_len: usize) -> Result<(Vec<i64>, i
     Ok((sheet, weight))
 }
 
+/// What the second table's codes come back with when it is picked from.
+const OF_THE_SECOND: u32 = 100;
+
+/// Picking the smaller of two tables: the table itself. The second's refusal has 100 added.
+pub fn pick<'a>(first: &'a [u8], second: &'a [u8]) -> Result<&'a [u8], Refusal> {
+    let size = |table: Table| (table.states(), table.transitions.len());
+    let of_first = size(table::read(first)?);
+    let of_second = size(
+        table::read(second)
+            .map_err(|refusal| Refusal::new(refusal.code + OF_THE_SECOND, refusal.figure))?,
+    );
+    Ok(if of_second < of_first { second } else { first })
+}
+
 #[cfg(test)]
 mod tests {
     use super::*;
     use crate::answer::{NO_SUCH_DIRECTION, TABLE_ENDS, TREE_ENDS};
     use crate::examples;
+
+    /// The proved program `pick_try` tries these pairs, in this order, and prints what it gets.
+    #[test]
+    fn pick_try_prints_what_pick_gives() {
+        let a = &examples::A[..];
+        let collapsed = &examples::A_BACKWARD[..];
+        let changed = |at: usize, byte: u8| {
+            let mut table = a.to_vec();
+            table[at] = byte;
+            table
+        };
+        let other = &changed(22, 8)[..];
+        let shorter = &changed(8, 3)[..19];
+        let broken = &changed(17, 3)[..];
+        let cut = &a[..5];
+        let pairs = [
+            (a, collapsed),
+            (collapsed, a),
+            (a, other),
+            (other, a),
+            (a, shorter),
+            (shorter, a),
+            (broken, a),
+            (a, broken),
+            (broken, cut),
+            (a, cut),
+            (a, &cut[..0]),
+        ];
+        let lines: String = pairs
+            .iter()
+            .map(|(first, second)| {
+                let (code, figure, piece) = match pick(first, second) {
+                    Ok(piece) => (0, piece.len(), piece),
+                    Err(refusal) => (refusal.code, refusal.figure, &a[..0]),
+                };
+                let sum: u32 = piece.iter().map(|&byte| u32::from(byte)).sum();
+                let length = piece.len();
+                format!("code {code} figure {figure} piece {length} sum {sum}\n")
+            })
+            .collect();
+        assert_eq!(lines, include_str!("../../../crates/pick_try/stdout"));
+    }
 
     #[test]
     fn the_direction_is_tested_first_and_the_room_last() {
