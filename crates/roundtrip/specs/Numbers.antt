@@ -208,3 +208,36 @@ groups-bytes (suc g) n h =
 
 pub written-bytes : (n : ℕ) → n < 2 ^ 32 → Each (λ b. b < 256) (written n)
 written-bytes n h = groups-bytes 4 n h
+
+-- A number is written in the fewest bytes: what is written means the number, and no other bytes that mean it are fewer.
+
+-- what bytes mean, seven bits each, the lowest first
+abbrev pub groupsMean : List ℕ → ℕ
+groupsMean [] = 0
+groupsMean (b ∷ bs) = b % 128 + 128 * groupsMean bs
+
+groups-mean : (g n : ℕ) → n < 128 * 128 ^ g → groupsMean (groups g n) ≡ n
+groups-mean zero n h = rw (groups-zero n) (omega arith)
+groups-mean (suc g) n h =
+    elim (decLt n 128) [
+      | yes l ↦ rw (groups-last (suc g) n l) (omega arith)
+      | no l ↦ rw (groups-more g n (omega arith)) (omega (arith, groups-mean g (n / 128) (omega arith)))
+    ]
+
+groups-fewest : (g n : ℕ) (bs : List ℕ) → 1 ≤ length bs → groupsMean bs ≡ n → length (groups g n) ≤ length bs
+groups-fewest zero n bs some e = rw (groups-zero n) some
+groups-fewest (suc g) n [] some e = absurd (omega arith)
+groups-fewest (suc g) n (b ∷ []) some e = rw (groups-last (suc g) n (omega arith)) (omega arith)
+groups-fewest (suc g) n (b ∷ c ∷ bs) some e =
+    elim (decLt n 128) [
+      | yes l ↦ rw (groups-last (suc g) n l) (omega arith)
+      | no l ↦
+        let high : groupsMean (c ∷ bs) ≡ n / 128 = omega arith in
+        rw (groups-more g n (omega arith)) (omega (arith, groups-fewest g (n / 128) (c ∷ bs) (omega arith) high))
+    ]
+
+pub written-means : (n : ℕ) → n < 2 ^ 32 → groupsMean (written n) ≡ n
+written-means n h = groups-mean 4 n (omega arith)
+
+pub written-fewest : (n : ℕ) (bs : List ℕ) → 1 ≤ length bs → groupsMean bs ≡ n → length (written n) ≤ length bs
+written-fewest n bs some e = groups-fewest 4 n bs some e
