@@ -1,0 +1,50 @@
+//! The theorems that state the client's demands and what document 01 claims.
+
+use crate::sources::{Id, Sources};
+
+/// Where they stand (a file, or a folder with the file), and their names.
+const THEOREMS: &[(&str, &[&str])] = &[
+    (
+        "collapse/specs/Sequences.antt",
+        &["weights-kept", "same-bytes", "same-bytes-with-room"],
+    ),
+    ("collapse/specs/Examples.antt", &["examples"]),
+    (
+        "roundtrip/specs/",
+        &[
+            "one-form",
+            "table-sound",
+            "table-complete",
+            "one-table",
+            "table-length",
+            "longest",
+            "read-length",
+            "later-bytes",
+            "figure-fits",
+            "written-means",
+            "written-fewest",
+        ],
+    ),
+    (
+        "trees/specs/Written.antt",
+        &["sound", "complete", "one-tree"],
+    ),
+    ("weigh/specs/Sheets.antt", &["sheet-entry"]),
+    ("theory/specs/Bound.antt", &["weight-bound"]),
+    ("theory/specs/Equivalence.antt", &["equivalence-blocks"]),
+];
+
+/// What the statements of these theorems name, the parameters of the modules that they stand in included.
+pub fn roots(sources: &Sources) -> Result<Vec<Id>, String> {
+    let mut found = Vec::new();
+    for (place, names) in THEOREMS {
+        for name in *names {
+            match &sources.find(place, name)[..] {
+                [theorem] => found.extend(sources.named_by(theorem)?),
+                [] => return Err(format!("{place} has no theorem {name}")),
+                _ => return Err(format!("{place} has more than one theorem {name}")),
+            }
+        }
+    }
+    Ok(found)
+}
