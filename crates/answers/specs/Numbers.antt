@@ -1,6 +1,6 @@
 -- Document 01's table "Numbers that come back": the code and the figure of each refusal, and of each answer.
-use Prim.Native.Nat.{ℕ, _+_, _*_, _^_, _<_}
-use lib.Dec.{lit<}
+use Prim.Native.Nat.{ℕ, _+_, _*_, _^_, _<_, _≤_}
+use lib.Dec.{lit<, lit≤}
 use Rattle.answers.specs.declared.Refusal.{Refusal}
 use Rattle.answers.specs.declared.Refusal.the-variants.{TableEnds, BadNumber, OutOfRange, NotInTable, ZeroCode, NotAbove, TableGoesOn, TreeEnds, UnknownSymbol, TreeGoesOn, TreeTooLong, RoomTooShort, NoDirection}
 use Rattle.answers.specs.declared.Answer.{Answer}
@@ -65,3 +65,19 @@ code-small (TreeGoesOn at) = lit< tt
 code-small TreeTooLong = lit< tt
 code-small (RoomTooShort needed) = lit< tt
 code-small NoDirection = lit< tt
+
+-- no refusal has the code 0
+pub code-some : (refusal : Refusal) → 1 ≤ codeOf refusal
+code-some (TableEnds at) = lit≤ tt
+code-some (BadNumber at) = lit≤ tt
+code-some (OutOfRange at) = lit≤ tt
+code-some (NotInTable at) = lit≤ tt
+code-some (ZeroCode at) = lit≤ tt
+code-some (NotAbove at) = lit≤ tt
+code-some (TableGoesOn at) = lit≤ tt
+code-some (TreeEnds at) = lit≤ tt
+code-some (UnknownSymbol at) = lit≤ tt
+code-some (TreeGoesOn at) = lit≤ tt
+code-some TreeTooLong = lit≤ tt
+code-some (RoomTooShort needed) = lit≤ tt
+code-some NoDirection = lit≤ tt

@@ -2,6 +2,7 @@
 -- examples that are refused are here too, as readings.
 use Prim.Native.Nat.{ℕ, _≤_, _<_}
 use mathlib.Core.Path.{_≡_, refl, sym, ap, _∙_}
+use mathlib.Core.Bool.{Bool, true, false}
 use mathlib.Core.List.{List, [], _∷_, _++_}
 use native.Mathlib.Omega.{arith}
 use lib.ListN.{length, drop, getD, replicate}
@@ -14,10 +15,11 @@ use Rattle.numbers.specs.Written.{groups}
 use Rattle.numbers.specs.Read.{numberAt, moreFrom}
 use Rattle.model.specs.Table.{Table}
 use Rattle.format.specs.Examples.{bytesA}
-use Rattle.format.specs.Read.{found, refused, many, transitionAt, transitionsAt, tableRead}
+use Rattle.format.specs.Written.{bytesOf}
+use Rattle.format.specs.Read.{Found, found, refused, many, transitionAt, transitionsAt, tableRead}
 use Rattle.roundtrip.specs.Tables.{table-sound}
 use Rattle.calls.specs.declared.Choice.the-variants.{First, Second, RefusedSecond}
-use Rattle.calls.specs.Answers.{checked, Checks, rewrittenAnswer, rewrittenRoom, Rewrites}
+use Rattle.calls.specs.Answers.{checked, Checks, fits, fitted, filled, rewrittenAnswer, rewrittenRoom, Rewrites}
 use Rattle.calls.specs.Picking.{picked, pickCode}
 
 a-checked : checked (tableRead bytesA) ≡ Done 3
@@ -75,6 +77,18 @@ pick-refused = (refl, refl)
 pub refusal-untouched : (table before : List ℕ) (refusal : Refusal) (a : Answer) (room : List ℕ) → tableRead table ≡ refused refusal
     → Rewrites table before a room → (a ≡ Refused refusal) × (room ≡ before)
 refusal-untouched table before refusal a room e p = (p .answer-is ∙ rw e, p .room-is ∙ rw e)
+
+-- one whose refusal, of whatever number, touches a byte
+pub rewrite-refusal : (table before : List ℕ) (refusal : Refusal) (room : List ℕ) → Rewrites table before (Refused refusal) room → room ≡ before
+rewrite-refusal table before refusal room p = go (tableRead table) (p .answer-is) (p .room-is)
+  where
+    either : (X : Table) (b : Bool) → Refused refusal ≡ fitted b (length (bytesOf X)) → room ≡ filled b (bytesOf X) before → room ≡ before
+    either X true e f = absurd (never-both (length (bytesOf X)) refusal (sym e))
+    either X false e f = f
+
+    go : (x : Found Table) → Refused refusal ≡ rewrittenAnswer x before → room ≡ rewrittenRoom x before → room ≡ before
+    go (found X end) e f = either X (fits (bytesOf X) before) e f
+    go (refused r) e f = f
 
 -- one that tests 6 before 5: the second transition is not above the first, and its code is 0
 pub five-before-six : checked (tableRead (0 ∷ 1 ∷ 1 ∷ 0 ∷ 0 ∷ 2 ∷ 0 ∷ 0 ∷ 1 ∷ 0 ∷ 0 ∷ 0 ∷ [])) ≡ Refused (ZeroCode 11)

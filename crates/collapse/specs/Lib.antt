@@ -1,3 +1,4 @@
+pub mod Enough
 pub mod Examples
 pub mod Promises
 pub mod Readable

@@ -10,18 +10,21 @@ use lib.Seq.{take-append-seam}
 use lib.Dec.{leb}
 use borrow.Author.Tests.{le-leb}
 use Rattle.answers.specs.declared.Answer.the-variants.{Done}
+use Rattle.answers.specs.declared.Refusal.{Refusal}
+use Rattle.answers.specs.declared.Refusal.the-variants.{NoDirection}
 use Rattle.model.specs.Table.{Table, Proper}
 use Rattle.model.specs.Tree.{Tree}
 use Rattle.theory.specs.Weight.{value}
 use Rattle.theory.specs.Direction.{direction}
 use Rattle.theory.specs.Collapse.{CollapsedByCoarsest}
 use Rattle.theory.specs.CollapseProper.{collapsedByCoarsest-proper}
+use Rattle.theory.specs.Shrink.{Shrinks, shrinks-proper, shrinks-value}
 use Rattle.theory.specs.Sequence.{Sequence, start, collapse, sequence-value, sequence-again}
-use Rattle.format.specs.Read.{Found, found, tableRead}
+use Rattle.format.specs.Read.{Found, found, refused, tableRead}
 use Rattle.format.specs.Written.{bytesOf}
 use Rattle.roundtrip.specs.Tables.{table-sound, table-complete}
 use Rattle.calls.specs.Answers.{fits, filled}
-use Rattle.collapse.specs.Promises.{written, TablePut, PutFrom, Collapses}
+use Rattle.collapse.specs.Promises.{written, refusedBy, TablePut, PutFrom, Collapses, ShrinksTo}
 use Rattle.collapse.specs.declared.Counted.{Counted}
 
 -- a collapse in direction d of a table that is not refused: `to` is what it wrote into some lent room
@@ -37,6 +40,29 @@ pub record Collapsing (d : ℕ) (from to : List ℕ) : Type 0 where
 pub data Collapsings (from : List ℕ) : List ℕ → Type 0 where
   none : Collapsings from from
   _behind_ : {to next : List ℕ} {d : ℕ} → Collapsing d to next → Collapsings from to → Collapsings from next
+
+-- Whatever a collapse that is done leaves at the front of the room, as many bytes as its figure says, is what it wrote.
+pub done-collapsing : (d : ℕ) (from before : List ℕ) (n : ℕ) (given : Counted) (room : List ℕ) → Collapses d from before given room
+    → given .answer ≡ Done n → Collapsing d from (take n room)
+done-collapsing d from before n given room collapses done = go (leb d 1) (tableRead from) collapses
+  where
+    never : (r : Refusal) → given ≡ refusedBy r → ⊥
+    never r e = let f = ap (λ (g : Counted). g .answer) e in let z : _≡_ {A = ℕ} 0 1 = cc (f, done) in omega arith
+
+    front : (Y : Table) (b : Bool) → given ≡ written b Y → room ≡ filled b (bytesOf Y) before → length (take n room) ≡ n
+    front Y false e f = absurd (let g = ap (λ (g : Counted). g .answer) e in let z : _≡_ {A = ℕ} 0 1 = cc (g, done) in omega arith)
+    front Y true e f =
+        let long : n ≡ length (bytesOf Y) = let g = ap (λ (g : Counted). g .answer) e in cc (g, done) in
+        let seam : take n room ≡ bytesOf Y = rw (long, f) (take-append-seam (bytesOf Y) _) in
+        rw seam (sym long)
+
+    collapsing : length (take n room) ≡ n → Collapsing d from (take n room)
+    collapsing l = record { room-before = before; room-after = room; given = given; collapses = collapses; done = rw l done; wrote = rw l }
+
+    go : (known : Bool) (x : Found Table) → PutFrom known x (CollapsedByCoarsest (direction d)) before given room → Collapsing d from (take n room)
+    go false x p = absurd (never NoDirection (p .0))
+    go true (refused r) p = absurd (never r (p .0))
+    go true (found X end) p = collapsing (front (p .table) (fits (bytesOf (p .table)) before) (p .answer-is) (p .room-is))
 
 -- the bytes are a table within document 01's bounds
 pub record Reads (bytes : List ℕ) (X : Table) : Type 0 where
@@ -96,10 +122,19 @@ reach from to X r (_behind_ {to = middle} {d = d} c s) =
     let w = wrote d middle to c (k .last) (k .reads) in
     record { last = w .result; reads = w .reads; sequence = collapse (k .sequence) (direction d) (w .collapsed) }
 
+-- arithmetic, symbols and ranks stay
+sequence-stays : {X Y : Table} → Sequence X Y → (Y .arithmetic ≡ X .arithmetic) × (Y .ranks ≡ X .ranks)
+sequence-stays start = (refl, refl)
+sequence-stays (collapse s d C) =
+    let before = sequence-stays s in
+    (C .collapsed .shape .arithmetic-stays ∙ before .0, C .collapsed .shape .ranks-stay ∙ before .1)
+
 -- every tree has the weight in the table that these bytes are that it has in X
 pub record Kept (X : Table) (bytes : List ℕ) : Type 0 where
   pub last : Table
   pub reads : Reads bytes last
+  pub arithmetic-stays : last .arithmetic ≡ X .arithmetic
+  pub ranks-stay : last .ranks ≡ X .ranks
   pub weights : (t : Tree) → value last t ≡ value X t
 
 module _ (from : List ℕ) (bytes : (i : ℕ) → getD from i 0 < 256) (X : Table) (end : ℕ) (accepted : tableRead from ≡ found X end) where
@@ -110,7 +145,8 @@ module _ (from : List ℕ) (bytes : (i : ℕ) → getD from i 0 < 256) (X : Tabl
   pub weights-kept : (to : List ℕ) → Collapsings from to → Kept X to
   weights-kept to s =
       let k = reach from to X first s in
-      record { last = k .last; reads = k .reads; weights = sequence-value (first .proper) (k .sequence) }
+      let stay = sequence-stays (k .sequence) in
+      record { last = k .last; reads = k .reads; arithmetic-stays = stay .0; ranks-stay = stay .1; weights = sequence-value (first .proper) (k .sequence) }
 
   -- Demand 3, second part: the last collapse, made again at once, returns the same bytes.
   pub same-bytes : (middle to again : List ℕ) (d : ℕ) → Collapsings from middle → Collapsing d middle to → Collapsing d to again → again ≡ to
@@ -135,3 +171,22 @@ module _ (from : List ℕ) (bytes : (i : ℕ) → getD from i 0 < 256) (X : Tabl
       let answer : c ≡ written true (t .table) = t .answer-is ∙ ap (λ (b : Bool). written b (t .table)) fit in
       let filling : room ≡ filled true (bytesOf (t .table)) before = t .room-is ∙ ap (λ (b : Bool). filled b (bytesOf (t .table)) before) fit in
       (ap (λ (g : Counted). g .answer) answer ∙ ap (λ (bs : List ℕ). Done (length bs)) same, rw (filling, same) (take-append-seam to _))
+
+  -- A shrink that is done keeps every tree's weight too.
+  pub shrink-kept : (d : ℕ) (before : List ℕ) (n : ℕ) (given : Counted) (room : List ℕ) → ShrinksTo d from before given room → given .answer ≡ Done n
+      → (last : Table) × Reads (take n room) last × ((t : Tree) → value last t ≡ value X t)
+  shrink-kept d before n given room shrinks done = go (leb d 1) (subst (λ (x : Found Table). PutFrom (leb d 1) x (Shrinks (direction d)) before given room) accepted shrinks)
+    where
+      Kept-by : Type 0
+      Kept-by = (last : Table) × Reads (take n room) last × ((t : Tree) → value last t ≡ value X t)
+
+      wrote-it : (Y : Table) → Shrinks (direction d) X Y → (b : Bool) → given ≡ written b Y → room ≡ filled b (bytesOf Y) before → Kept-by
+      wrote-it Y named false e f = absurd (let g = ap (λ (g : Counted). g .answer) e in let z : _≡_ {A = ℕ} 0 1 = cc (g, done) in omega arith)
+      wrote-it Y named true e f =
+          let long : n ≡ length (bytesOf Y) = let g = ap (λ (g : Counted). g .answer) e in cc (g, done) in
+          let front : take n room ≡ bytesOf Y = rw (long, f) (take-append-seam (bytesOf Y) _) in
+          (Y, record { is = front; proper = shrinks-proper (first .proper) named }, shrinks-value (first .proper) named)
+
+      go : (known : Bool) → PutFrom known (found X end) (Shrinks (direction d)) before given room → Kept-by
+      go false p = absurd (let e = ap (λ (g : Counted). g .answer) (p .0) in let z : _≡_ {A = ℕ} 0 1 = cc (e, done) in omega arith)
+      go true p = wrote-it (p .table) (p .named) (fits (bytesOf (p .table)) before) (p .answer-is) (p .room-is)

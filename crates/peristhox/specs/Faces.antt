@@ -1,15 +1,18 @@
 -- The answers of weigh, blocks, collapse and shrink as code times 2^32 plus figure.
-use Prim.Native.Nat.{ℕ, _<_}
+use Prim.Native.Nat.{ℕ, _^_, _<_}
 use mathlib.Core.Path.{_≡_, sym, ap, _∙_}
 use mathlib.Core.Bool.{cond}
 use mathlib.Core.List.{List}
+use native.Mathlib.Omega.{arith}
 use lib.IntN.{ℤ}
-use lib.ListN.{getD}
-use Rattle.answers.specs.Numbers.{packed}
+use lib.ListN.{getD, take}
+use Rattle.answers.specs.Numbers.{packed, code-some}
 use Rattle.answers.specs.declared.Answer.{Answer}
+use Rattle.answers.specs.declared.Answer.the-variants.{Done, Refused}
 use Rattle.weigh.specs.declared.Weighing.{Weighing}
 use Rattle.weigh.specs.Promise.{Weighed, weigh-decided}
 use Rattle.collapse.specs.Promises.{Blocks, Collapses, ShrinksTo, blocks-decided, collapse-decided, shrink-decided}
+use Rattle.collapse.specs.Sequences.{Collapsing, done-collapsing}
 use Rattle.collapse.specs.declared.Counted.{Counted}
 
 -- and the lent number afterwards: the tree's weight under code 0, left alone by a refusal
@@ -59,3 +62,13 @@ pub shrink-face-decided : (d : ℕ) (table before : List ℕ) → ((i : ℕ) →
 shrink-face-decided d table before bytes a b r s p q =
     let same = shrink-decided d table before bytes (p .given) (q .given) r s (p .shrinks) (q .shrinks) in
     (p .answer-is ∙ ap (λ (c : Counted). packed (c .answer)) (same .0) ∙ sym (q .answer-is), same .1)
+
+-- a number below 2^32 is that of an answer that is done
+pub done-below : (a : Answer) → packed a < 2 ^ 32 → a ≡ Done (packed a)
+done-below (Done figure) h = let e : figure ≡ packed (Done figure) = omega arith in ap Done e
+done-below (Refused refusal) h = absurd (omega (arith, code-some refusal))
+
+-- Demand 3 seen from C: what peristhox_collapse wrote under code 0 is a step of a sequence.
+pub face-collapsing : (d : ℕ) (from before : List ℕ) (answer : ℕ) (room : List ℕ) → CollapseFace d from before answer room → answer < 2 ^ 32 → Collapsing d from (take answer room)
+face-collapsing d from before answer room p h =
+    done-collapsing d from before answer (p .given) room (p .collapses) (done-below (p .given .answer) (omega (arith, p .answer-is)) ∙ ap Done (sym (p .answer-is)))

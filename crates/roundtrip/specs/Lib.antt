@@ -1,3 +1,4 @@
+pub mod Codes
 pub mod Numbers
 pub mod Sequences
 pub mod Readers

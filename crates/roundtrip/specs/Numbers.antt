@@ -232,8 +232,8 @@ groups-fewest (suc g) n (b ∷ c ∷ bs) some e =
     elim (decLt n 128) [
       | yes l ↦ rw (groups-last (suc g) n l) (omega arith)
       | no l ↦
-        let high : groupsMean (c ∷ bs) ≡ n / 128 = omega arith in
-        rw (groups-more g n (omega arith)) (omega (arith, groups-fewest g (n / 128) (c ∷ bs) (omega arith) high))
+          let high : groupsMean (c ∷ bs) ≡ n / 128 = omega arith in
+          rw (groups-more g n (omega arith)) (omega (arith, groups-fewest g (n / 128) (c ∷ bs) (omega arith) high))
     ]
 
 pub written-means : (n : ℕ) → n < 2 ^ 32 → groupsMean (written n) ≡ n

@@ -1,3 +1,4 @@
+pub mod Far
 pub mod Asked
 pub mod Promise
 pub mod Examples

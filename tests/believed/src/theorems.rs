@@ -6,9 +6,19 @@ use crate::sources::{Id, Sources};
 const THEOREMS: &[(&str, &[&str])] = &[
     (
         "collapse/specs/Sequences.antt",
-        &["weights-kept", "same-bytes", "same-bytes-with-room"],
+        &[
+            "done-collapsing",
+            "weights-kept",
+            "same-bytes",
+            "same-bytes-with-room",
+            "shrink-kept",
+        ],
     ),
     ("collapse/specs/Examples.antt", &["examples"]),
+    (
+        "collapse/specs/Enough.antt",
+        &["blocks-enough", "collapse-enough", "shrink-enough"],
+    ),
     (
         "roundtrip/specs/",
         &[
@@ -23,6 +33,7 @@ const THEOREMS: &[(&str, &[&str])] = &[
             "figure-fits",
             "written-means",
             "written-fewest",
+            "table-codes",
         ],
     ),
     (
@@ -30,6 +41,20 @@ const THEOREMS: &[(&str, &[&str])] = &[
         &["sound", "complete", "one-tree"],
     ),
     ("weigh/specs/Sheets.antt", &["sheet-entry"]),
+    ("weigh/specs/Far.antt", &["weigh-near"]),
+    ("peristhox/specs/Faces.antt", &["face-collapsing"]),
+    ("peristhox/specs/Alike.antt", &["weighed-alike"]),
+    (
+        "peristhox/specs/Told.antt",
+        &[
+            "check-tells",
+            "rewrite-tells",
+            "weigh-tells",
+            "blocks-tells",
+            "collapse-tells",
+            "shrink-tells",
+        ],
+    ),
     ("theory/specs/Bound.antt", &["weight-bound"]),
     ("theory/specs/Equivalence.antt", &["equivalence-blocks"]),
 ];

@@ -1,6 +1,6 @@
 -- `peristhox::peristhox_blocks` meets its contract: the call's answer, packed.
 -- Assumes nothing.
-use Rattle.peristhox.proofs.Shrunken.{blocks-fit}
+use Rattle.peristhox.specs.Shrunken.{blocks-fit}
 use borrow.Author.Needs.{needs}
 use Rattle.peristhox.proofs.peristhox_blocks.Statement.{statement}
 use Rattle.peristhox.proofs.peristhox_blocks.Tie as tie

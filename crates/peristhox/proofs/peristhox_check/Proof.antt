@@ -2,7 +2,7 @@
 -- Assumes nothing.
 use mathlib.Core.Path.{ap, _∙_}
 use Rattle.answers.specs.Numbers.{packed}
-use Rattle.peristhox.proofs.Figures.{check-fits}
+use Rattle.peristhox.specs.Figures.{check-fits}
 use borrow.Author.Needs.{needs}
 use Rattle.peristhox.proofs.peristhox_check.Statement.{statement}
 use Rattle.peristhox.proofs.peristhox_check.Tie as tie

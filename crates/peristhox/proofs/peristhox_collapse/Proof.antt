@@ -1,6 +1,6 @@
 -- `peristhox::peristhox_collapse` meets its contract: the call's answer, packed.
 -- Assumes nothing.
-use Rattle.peristhox.proofs.Shrunken.{collapse-fits}
+use Rattle.peristhox.specs.Shrunken.{collapse-fits}
 use borrow.Author.Needs.{needs}
 use Rattle.peristhox.proofs.peristhox_collapse.Statement.{statement}
 use Rattle.peristhox.proofs.peristhox_collapse.Tie as tie

@@ -2,7 +2,7 @@
 -- Assumes nothing.
 use mathlib.Core.Path.{ap, _∙_}
 use Rattle.answers.specs.Numbers.{packed}
-use Rattle.peristhox.proofs.Figures.{rewrite-fits}
+use Rattle.peristhox.specs.Figures.{rewrite-fits}
 use borrow.Author.Needs.{needs}
 use Rattle.peristhox.proofs.peristhox_rewrite.Statement.{statement}
 use Rattle.peristhox.proofs.peristhox_rewrite.Tie as tie

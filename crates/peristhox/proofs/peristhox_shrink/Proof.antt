@@ -1,6 +1,6 @@
 -- `peristhox::peristhox_shrink` meets its contract: the call's answer, packed.
 -- Assumes nothing.
-use Rattle.peristhox.proofs.Shrunken.{shrink-fits}
+use Rattle.peristhox.specs.Shrunken.{shrink-fits}
 use borrow.Author.Needs.{needs}
 use Rattle.peristhox.proofs.peristhox_shrink.Statement.{statement}
 use Rattle.peristhox.proofs.peristhox_shrink.Tie as tie

@@ -9,7 +9,7 @@ use mir.Val.{SFits}
 use lib.IntN.{ℤ}
 use Rattle.weigh.specs.Promise.{weighed-asked}
 use Rattle.weigh.specs.declared.Weighing.{Weighing}
-use Rattle.peristhox.proofs.Figures.{weigh-fits}
+use Rattle.peristhox.specs.Figures.{weigh-fits}
 use borrow.Author.Needs.{needs}
 use Rattle.peristhox.proofs.peristhox_weigh.Statement.{statement}
 use Rattle.peristhox.proofs.peristhox_weigh.Tie as tie
