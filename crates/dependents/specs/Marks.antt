@@ -19,10 +19,6 @@ pub record Marked (Q : ℕ → Type 0) (dirty dirty′ : List Bool) : Type 0 whe
 pub marking-starts : (Q : ℕ → Type 0) (dirty : List Bool) → ((q : ℕ) → Q q → ⊥) → length dirty ≡ 256 → Marked Q dirty dirty
 marking-starts Q dirty none long = record { kept = λ q e. e; marked = λ q h. absurd (none q h); long = long }
 
-abbrev pub otherSide : Direction → Direction
-otherSide backward = forward
-otherSide forward = backward
-
 -- q is a child of transition j
 abbrev pub Child : List ℕ → List ℕ → List ℕ → ℕ → ℕ → Type 0
 Child ranks symbol children j q = (k : ℕ) × (k < getD ranks (getD symbol j 0) 0) × (getD children (j * 4 + k) 0 ≡ q)

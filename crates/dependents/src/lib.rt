@@ -5,10 +5,10 @@ use states::State;
 ghost use mathlib.Core.Path.{_≡_};
 ghost use Prim.Native.Nat.{_≤_, _<_};
 ghost use lib.ListN.{length};
-ghost use Rattle.theory.specs.Direction.{direction as sideOf};
+ghost use Rattle.theory.specs.Direction.{direction as sideOf, other};
 ghost use Rattle.uses.specs.Theory.{rowOf};
 ghost use Rattle.uses.specs.Lists.{Long, Row, ListedUses};
-ghost use Rattle.dependents.specs.Marks.{Marked, Child, LeadsTo, Depends, DependsOnMoved, otherSide};
+ghost use Rattle.dependents.specs.Marks.{Marked, Child, LeadsTo, Depends, DependsOnMoved};
 
 fn wide(byte: u8) -> usize
     ensures { λ r. ⌜ (r ≡ byte) × (r < 256) ⌝ }
@@ -51,7 +51,7 @@ fn mark_use<'a>(
     target: &'a [u8; 4000],
     dirty: &mut [bool; 256],
 )
-    requires { ⌜ Long (now ranks) (now symbol) (now children) (now target) × (length (now dirty) ≡ 256) × Row (now ranks) (now symbol) (rowOf (otherSide (sideOf direction)) u) ⌝ }
+    requires { ⌜ Long (now ranks) (now symbol) (now children) (now target) × (length (now dirty) ≡ 256) × Row (now ranks) (now symbol) (rowOf (other (sideOf direction)) u) ⌝ }
     ensures { λ _. ⌜ Marked (LeadsTo (sideOf direction) (now (ranks .entry)) (now (symbol .entry)) (now (children .entry)) (now (target .entry)) u) (now (dirty .entry)) (now (dirty .exit)) ⌝ }
 {
     if direction == 0 {
@@ -74,7 +74,7 @@ fn mark<'a>(
     list: &'a [u16; 16000],
     dirty: &mut [bool; 256],
 )
-    requires { ⌜ Long (now ranks) (now symbol) (now children) (now target) × (length (now dirty) ≡ 256) × ListedUses (otherSide (sideOf direction)) (now ranks) (now symbol) (now starts) (now list) ⌝ }
+    requires { ⌜ Long (now ranks) (now symbol) (now children) (now target) × (length (now dirty) ≡ 256) × ListedUses (other (sideOf direction)) (now ranks) (now symbol) (now starts) (now list) ⌝ }
     ensures { λ _. ⌜ Marked (Depends (sideOf direction) (now (ranks .entry)) (now (symbol .entry)) (now (children .entry)) (now (target .entry)) (now (starts .entry)) (now (list .entry)) (p .0)) (now (dirty .entry)) (now (dirty .exit)) ⌝ }
 {
     let at = wide(p.0);
@@ -109,7 +109,7 @@ pub fn mark_moved<'a>(
     list: &'a [u16; 16000],
     dirty: &mut [bool; 256],
 )
-    requires { ⌜ Long (now ranks) (now symbol) (now children) (now target) × (length (now dirty) ≡ 256) × ListedUses (otherSide (sideOf direction)) (now ranks) (now symbol) (now starts) (now list) × (many ≤ 256) × (length (now found) ≡ 256) × (length (now part) ≡ 256) ⌝ }
+    requires { ⌜ Long (now ranks) (now symbol) (now children) (now target) × (length (now dirty) ≡ 256) × ListedUses (other (sideOf direction)) (now ranks) (now symbol) (now starts) (now list) × (many ≤ 256) × (length (now found) ≡ 256) × (length (now part) ≡ 256) ⌝ }
     ensures { λ _. ⌜ Marked (DependsOnMoved (sideOf direction) many keeper (now (found .entry)) (now (part .entry)) (now (ranks .entry)) (now (symbol .entry)) (now (children .entry)) (now (target .entry)) (now (starts .entry)) (now (list .entry))) (now (dirty .entry)) (now (dirty .exit)) ⌝ }
 {
     let mut i = 0;

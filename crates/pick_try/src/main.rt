@@ -5,96 +5,27 @@ use libc::STDOUT_FILENO;
 
 fn main() {
     // document 01's table A, its backward collapse, and A with its last code changed
-    let a = [
-        0u8,
-        3,
-        2,
-        0,
-        1,
-        0,
-        0,
-        1,
-        4,
-        0,
-        0,
-        3,
-        0,
-        1,
-        3,
-        1,
-        0,
-        2,
-        5,
-        1,
-        1,
-        2,
-        7,
-    ];
-    let collapsed = [0u8, 2, 2, 0, 1, 0, 1, 2, 0, 0, 3, 1, 0, 1, 12];
-    let other = [
-        0u8,
-        3,
-        2,
-        0,
-        1,
-        0,
-        0,
-        1,
-        4,
-        0,
-        0,
-        3,
-        0,
-        1,
-        3,
-        1,
-        0,
-        2,
-        5,
-        1,
-        1,
-        2,
-        8,
-    ];
+    let a =
+        b"\x00\x03\x02\x00\x01\x00\x00\x01\x04\x00\x00\x03\x00\x01\x03\x01\x00\x02\x05\x01\x01\x02\x07";
+    let collapsed = b"\x00\x02\x02\x00\x01\x00\x01\x02\x00\x00\x03\x01\x00\x01\x0c";
+    let other =
+        b"\x00\x03\x02\x00\x01\x00\x00\x01\x04\x00\x00\x03\x00\x01\x03\x01\x00\x02\x05\x01\x01\x02\x08";
     // A without its last transition, A with a state that is not in the table, and A's first bytes
-    let shorter = [0u8, 3, 2, 0, 1, 0, 0, 1, 3, 0, 0, 3, 0, 1, 3, 1, 0, 2, 5];
-    let broken = [
-        0u8,
-        3,
-        2,
-        0,
-        1,
-        0,
-        0,
-        1,
-        4,
-        0,
-        0,
-        3,
-        0,
-        1,
-        3,
-        1,
-        0,
-        3,
-        5,
-        1,
-        1,
-        2,
-        7,
-    ];
-    let cut = [0u8, 3, 2, 0, 1];
-    show(&a, &collapsed);
-    show(&collapsed, &a);
-    show(&a, &other);
-    show(&other, &a);
-    show(&a, &shorter);
-    show(&shorter, &a);
-    show(&broken, &a);
-    show(&a, &broken);
-    show(&broken, &cut);
-    show(&a, &cut);
-    show(&a, &cut[..0]);
+    let shorter = b"\x00\x03\x02\x00\x01\x00\x00\x01\x03\x00\x00\x03\x00\x01\x03\x01\x00\x02\x05";
+    let broken =
+        b"\x00\x03\x02\x00\x01\x00\x00\x01\x04\x00\x00\x03\x00\x01\x03\x01\x00\x03\x05\x01\x01\x02\x07";
+    let cut = b"\x00\x03\x02\x00\x01";
+    show(a, collapsed);
+    show(collapsed, a);
+    show(a, other);
+    show(other, a);
+    show(a, shorter);
+    show(shorter, a);
+    show(broken, a);
+    show(a, broken);
+    show(broken, cut);
+    show(a, cut);
+    show(a, b"");
 }
 
 fn show<'a>(first: &'a [u8], second: &'a [u8]) {

@@ -1,12 +1,11 @@
 -- The refinement as a whole: what holds at its start, after each split and at its end.
-use Prim.Native.Nat.{ℕ, zero, suc, _+_, _-_, _*_, _≤_, _<_}
-use mathlib.Core.Bool.{Bool, true, false, cond}
+use Prim.Native.Nat.{ℕ, _≤_, _<_}
+use mathlib.Core.Bool.{Bool, true, false}
 use mathlib.Core.List.{List}
-use mathlib.Core.Logic.{_⊎_, inl, inr, _↔_}
-use mathlib.Core.Path.{_≡_, sym, _∙_, subst}
-use native.Mathlib.Nat.{mul-le-mul-right, suc-mul}
+use mathlib.Core.Logic.{_↔_}
+use mathlib.Core.Path.{_≡_, sym, _∙_}
 use native.Mathlib.Omega.{arith}
-use lib.ListN.{length, take}
+use lib.ListN.{length, take, replicate}
 use lib.Seq.{getD-take, length-take-le}
 use Rattle.model.specs.Table.{Proper}
 use Rattle.tables.specs.Record.{tableOf, Holds}
@@ -14,37 +13,17 @@ use Rattle.tables.specs.declared.TableRecord.{TableRecord}
 use Rattle.theory.specs.Arithmetic.{arithmetic}
 use Rattle.theory.specs.Bisimulation as General
 use Rattle.theory.specs.Blocks.{blockOf, blocks-few, blockCount, blockCount-same}
-use Rattle.theory.specs.Direction.{Direction, CoarsestBlocks, Agree}
+use Rattle.theory.specs.Direction.{Direction, CoarsestBlocks, Agree, other}
 use Rattle.theory.specs.Equality.{not-both}
 use Rattle.theory.specs.Profile.{SameProfile}
 use Rattle.theory.specs.Refinement.{Refining, refining-start, refining-split, refining-end, coarsest-by-profile}
 use Rattle.theory.specs.Uses.{grade, uses-known}
-use Rattle.partition.specs.Members.{flag, dirtyCount}
+use Rattle.partition.specs.Members.{flag}
 use Rattle.partition.specs.Numbering.{Numbered, Started, FirstUsed}
 use Rattle.grouping.specs.Groups.{Same}
-use Rattle.dependents.specs.Marks.{otherSide}
-use Rattle.refine.specs.Splits.{Settled, SplitUp}
-use Rattle.refine.proofs.Known.{usesIn, IndexOf, profileOf, DependsIn}
+use Rattle.refine.specs.Splits.{Settled, SplitUp, Splits, none, another}
+use Rattle.refine.proofs.Known.{usesIn, IndexOf, profilesOf, DependsIn}
 use Rattle.refine.proofs.Refined.{same-profile, independent, grade-shared}
-
-dirty-few : (dirty : List Bool) (n : ℕ) → dirtyCount dirty n ≤ n
-unfolding dirtyCount
-dirty-few dirty zero = omega arith
-dirty-few dirty (suc n) = go (flag dirty n) (dirty-few dirty n)
-  where
-    go : (c : Bool) → dirtyCount dirty n ≤ n → cond c (suc (dirtyCount dirty n)) (dirtyCount dirty n) ≤ suc n
-    go true h = omega arith
-    go false h = omega arith
-
--- what falls with each split
-abbrev pub measure : ℕ → ℕ → List Bool → ℕ
-measure n total dirty = (n - total) * (n + 1) + dirtyCount dirty n
-
-fewer : (n t t′ : ℕ) → t < t′ → t′ ≤ n → (n - t′) * (n + 1) + (n + 1) ≤ (n - t) * (n + 1)
-fewer n t t′ l h =
-    let more : suc (n - t′) ≤ n - t = omega arith in
-    let e : suc (n - t′) * (n + 1) ≡ (n - t′) * (n + 1) + (n + 1) = suc-mul (n - t′) (n + 1) in
-    subst (λ (x : ℕ). x ≤ (n - t) * (n + 1)) e (mul-le-mul-right (n + 1) more)
 
 -- a state that need not be looked at again
 abbrev pub Clean : List Bool → ℕ → Type 0
@@ -85,15 +64,15 @@ module _ {t : TableRecord} {d : Direction} {blocks : List ℕ} {dirty : List Boo
 
   module _ {starts list : List ℕ} (index : IndexOf t d starts list) where
     same : (p q : ℕ) → p < t .states → q < t .states
-        → Same (t .arithmetic) (profileOf t d (blockOf blocks) starts list p) (profileOf t d (blockOf blocks) starts list q) ↔ SameProfile (arithmetic (t .arithmetic)) (usesIn t d) (blockOf blocks) p q
+        → Same (t .arithmetic) (profilesOf t d starts list (blockOf blocks) p) (profilesOf t d starts list (blockOf blocks) q) ↔ SameProfile (arithmetic (t .arithmetic)) (usesIn t d) (blockOf blocks) p q
     same = same-profile (now .holds) (now .proper) (blockOf blocks) bytes d index
 
-    pub present-settled : Settled (t .arithmetic) (profileOf t d (blockOf blocks) starts list) (t .states) blocks dirty
+    pub present-settled : Settled (t .arithmetic) (profilesOf t d starts list (blockOf blocks)) (t .states) blocks dirty
     present-settled p q lp lq f g e = same p q lp lq .1 (now .refining .settled p q lp lq f g e)
 
-    module _ {other-starts other-list : List ℕ} (other : IndexOf t (otherSide d) other-starts other-list) {D : ℕ} {blocks′ : List ℕ} {dirty′ : List Bool} {total′ : ℕ}
-        (split : SplitUp (t .arithmetic) (profileOf t d (blockOf blocks) starts list) (DependsIn t d other-starts other-list) (t .states) D blocks dirty total blocks′ dirty′ total′) where
-      pub present-goes-on : Present t d blocks′ dirty′ total′
+    module _ {other-starts other-list : List ℕ} (other : IndexOf t (other d) other-starts other-list) {D : ℕ} {blocks′ : List ℕ} {dirty′ : List Bool} {total′ : ℕ}
+        (split : SplitUp (t .arithmetic) (profilesOf t d starts list (blockOf blocks)) (DependsIn t d other-starts other-list) (t .states) D blocks dirty total blocks′ dirty′ total′) where
+      present-goes-on : Present t d blocks′ dirty′ total′
       present-goes-on = record {
         holds = now .holds;
         proper = now .proper;
@@ -112,19 +91,14 @@ module _ {t : TableRecord} {d : Direction} {blocks : List ℕ} {dirty : List Boo
             });
       }
 
-      pub present-less : measure (t .states) total′ dirty′ < measure (t .states) total dirty
-      present-less = go (split .progress)
-        where
-          n : ℕ
-          n = t .states
+-- what holds at the start holds after any splits
+module _ {t : TableRecord} {d : Direction} {starts list other-starts other-list : List ℕ} (index : IndexOf t d starts list) (other : IndexOf t (other d) other-starts other-list)
+    {start : List ℕ} {number : ℕ} (begun : Present t d start (replicate 256 true) number) where
+  pub present-after : {blocks : List ℕ} {dirty : List Bool} {total : ℕ} → Splits (t .arithmetic) (profilesOf t d starts list) (DependsIn t d other-starts other-list) (t .states) start number blocks dirty total → Present t d blocks dirty total
+  present-after none = begun
+  present-after (another splits split) = present-goes-on (present-after splits) index other split
 
-          few : total′ ≤ n
-          few = blocks-few n (blockOf blocks′) total′ (split .numbered .used)
-
-          go : (total < total′) ⊎ ((total′ ≡ total) × (dirtyCount dirty′ n < dirtyCount dirty n)) → measure n total′ dirty′ < measure n total dirty
-          go (inl l) = omega (arith, fewer n total total′ l few, dirty-few dirty′ n)
-          go (inr e) = rw (e .0) (omega (arith, e .1))
-
+module _ {t : TableRecord} {d : Direction} {blocks : List ℕ} {dirty : List Bool} {total : ℕ} (now : Present t d blocks dirty total) where
   -- where no state is dirty the blocks are the coarsest
   module _ (clean : (q : ℕ) → q < t .states → Clean dirty q) {blocks′ : List ℕ} {total′ : ℕ} (used : FirstUsed (t .states) blocks blocks′ total′) where
     at : (q : ℕ) → q < t .states → blockOf (take (t .states) blocks′) q ≡ blockOf blocks′ q

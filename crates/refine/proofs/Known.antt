@@ -1,6 +1,6 @@
 -- What is known of the columns of a record that is a proper table, and names for what they hold.
 use Prim.Native.Nat.{ℕ, _+_, _*_, _≤_, _<_, _^_}
-use mathlib.Core.List.{List, map}
+use mathlib.Core.List.{List}
 use mathlib.Core.Path.{_≡_, _∙_, subst}
 use native.Mathlib.Omega.{arith}
 use lib.ListN.{getD, take, drop}
@@ -15,11 +15,11 @@ use Rattle.model.specs.Each.{each-at}
 use Rattle.theory.specs.Profile.{Use}
 use Rattle.theory.specs.Uses.{uses}
 use Rattle.profiles.specs.Entries.{Entry}
-use Rattle.uses.specs.Lists.{Row, listed}
+use Rattle.uses.specs.Lists.{Row}
 use Rattle.uses.specs.Numbers.{usesOf, Indexed}
 use Rattle.uses.specs.Theory.{rankAt, Ranked}
-use Rattle.grouping.specs.Keys.{entryOf}
 use Rattle.dependents.specs.Marks.{Depends}
+use Rattle.refine.specs.Sides.{profiles}
 
 -- the theory's uses of a record's table
 abbrev pub usesIn : (t : TableRecord) → Direction → List (Use (Weight (t .arithmetic)))
@@ -29,9 +29,9 @@ usesIn t d = uses (t .arithmetic) d (rowsFrom (columnsOf t) 0 (t .count))
 abbrev pub IndexOf : TableRecord → Direction → List ℕ → List ℕ → Type 0
 IndexOf t d = Indexed (usesOf d (t .count) (t .ranks) (t .symbol) (t .children) (t .target))
 
--- the entries of each state under the blocks b
-abbrev pub profileOf : TableRecord → Direction → (ℕ → ℕ) → List ℕ → List ℕ → ℕ → List Entry
-profileOf t d b starts list p = map (entryOf d (t .ranks) (t .symbol) (t .children) (t .target) (t .code) b) (listed starts list p)
+-- the entries of each state under given blocks
+abbrev pub profilesOf : TableRecord → Direction → List ℕ → List ℕ → (ℕ → ℕ) → ℕ → List Entry
+profilesOf t d = profiles d (t .ranks) (t .symbol) (t .children) (t .target) (t .code)
 
 -- which states depend on a state, by the index of the other side
 abbrev pub DependsIn : TableRecord → Direction → List ℕ → List ℕ → ℕ → ℕ → Type 0

@@ -13,7 +13,7 @@ use Rattle.model.specs.Table.{Each, Proper}
 use Rattle.tables.specs.Record.{Columns, rowAt, tableOf, Holds}
 use Rattle.tables.specs.declared.TableRecord.{TableRecord}
 use Rattle.theory.specs.Arithmetic.{arithmetic, Weight, meaning, meaning-same}
-use Rattle.theory.specs.Direction.{Direction, backward, forward, direction}
+use Rattle.theory.specs.Direction.{Direction, backward, forward, direction, other}
 use Rattle.model.specs.Each.{each-implies, each-map, each-append, each-places}
 use Rattle.theory.specs.Equality.{numbers}
 use Rattle.theory.specs.Profile.{Use, Key, keyOf, packedSum, packed-profile, profile-packed, SameProfile, Independent}
@@ -25,9 +25,9 @@ use Rattle.uses.specs.Theory.{rowOf, useOf, rankAt, uses-numbered, use-state, s
 use Rattle.partition.specs.Numbering.{MayShare}
 use Rattle.grouping.specs.Groups.{Same}
 use Rattle.grouping.specs.Keys.{pack, keyIn, entryOf}
-use Rattle.dependents.specs.Marks.{LeadsTo, otherSide}
+use Rattle.dependents.specs.Marks.{LeadsTo}
 use Rattle.refine.proofs.Apart.{pack-same}
-use Rattle.refine.proofs.Known.{usesIn, IndexOf, profileOf, DependsIn, transition, ranked, child-known, final-fits}
+use Rattle.refine.proofs.Known.{usesIn, IndexOf, profilesOf, DependsIn, transition, ranked, child-known, final-fits}
 use Rattle.tables.specs.Rows.{columnsOf}
 use Rattle.refine.proofs.Listed.{listed-is, use-listed}
 
@@ -93,7 +93,7 @@ module _ {t : TableRecord} (holds : Holds t (tableOf t)) (proper : Proper (table
             )
 
     module _ (d : Direction) {starts list : List ℕ} (index : IndexOf t d starts list) where
-      profile-sum : (p : ℕ) → p < t .states → (j : ℕ) → sumAt (t .arithmetic) (profileOf t d b starts list p) j ≡ packedSum (arithmetic (t .arithmetic)) (usesIn t d) numbers pack b j p
+      profile-sum : (p : ℕ) → p < t .states → (j : ℕ) → sumAt (t .arithmetic) (profilesOf t d starts list b p) j ≡ packedSum (arithmetic (t .arithmetic)) (usesIn t d) numbers pack b j p
       profile-sum p l j =
           let us = usesOf d (t .count) (t .ranks) (t .symbol) (t .children) (t .target) p in
           let entry = entryOf d (t .ranks) (t .symbol) (t .children) (t .target) (t .code) b in
@@ -104,7 +104,7 @@ module _ {t : TableRecord} (holds : Holds t (tableOf t)) (proper : Proper (table
 
       -- entries with the same sums are the theory's same profile
       pub same-profile : (p q : ℕ) → p < t .states → q < t .states
-          → Same (t .arithmetic) (profileOf t d b starts list p) (profileOf t d b starts list q) ↔ SameProfile (arithmetic (t .arithmetic)) (usesIn t d) b p q
+          → Same (t .arithmetic) (profilesOf t d starts list b p) (profilesOf t d starts list b q) ↔ SameProfile (arithmetic (t .arithmetic)) (usesIn t d) b p q
       same-profile p q lp lq = (
         λ h. packed-profile (arithmetic (t .arithmetic)) (usesIn t d) numbers pack b
             (each-use d _ (λ u lu tu. each-use d _ (λ v lv tv. tells d u v lu tu lv tv))) p q (λ j. sym (profile-sum p lp j) ∙ h j ∙ profile-sum q lq j),
@@ -112,12 +112,12 @@ module _ {t : TableRecord} (holds : Holds t (tableOf t)) (proper : Proper (table
       )
 
   -- a state that depends on no renumbered state is independent
-  module _ (d : Direction) {starts list : List ℕ} (index : IndexOf t (otherSide d) starts list) (b b′ : ℕ → ℕ) (p : ℕ)
+  module _ (d : Direction) {starts list : List ℕ} (index : IndexOf t (other d) starts list) (b b′ : ℕ → ℕ) (p : ℕ)
       (kept : (r : ℕ) → r < t .states → DependsIn t d starts list r p → b r ≡ b′ r) where
     pub independent : Independent (arithmetic (t .arithmetic)) (usesIn t d) b b′ p
     independent = each-use d _ (λ u l e f. go d index kept u l e (sym (use-state (t .arithmetic) (columnsOf t) d u e) ∙ f))
       where
-        go : (d : Direction) → IndexOf t (otherSide d) starts list → ((r : ℕ) → r < t .states → DependsIn t d starts list r p → b r ≡ b′ r)
+        go : (d : Direction) → IndexOf t (other d) starts list → ((r : ℕ) → r < t .states → DependsIn t d starts list r p → b r ≡ b′ r)
             → (u : ℕ) → u < limit d (t .count) → isUse d (t .ranks) (t .symbol) u ≡ true → stateOf d (t .children) (t .target) u ≡ p → Each (λ r. b r ≡ b′ r) (useOf (t .arithmetic) d (columnsOf t) u .through)
         go backward index kept u l e f = each-places _ (rowAt (columnsOf t) u .children) 0 (λ k h. child k (omega (arith, ranked holds proper u l .0)))
           where
@@ -155,7 +155,7 @@ module _ {t : TableRecord} (holds : Holds t (tableOf t)) (proper : Proper (table
       )
 
 -- the number of the other side
-pub other-side : (side : ℕ) → side ≤ 1 → direction (1 - side) ≡ otherSide (direction side)
+pub other-side : (side : ℕ) → side ≤ 1 → direction (1 - side) ≡ other (direction side)
 other-side zero h = refl
 other-side (suc zero) h = refl
 other-side (suc (suc side)) h = absurd (omega arith)

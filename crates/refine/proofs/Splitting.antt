@@ -15,9 +15,9 @@ use Rattle.profiles.specs.Sums.{sumAt}
 use Rattle.dependents.specs.Marks.{Marked, SomeIn}
 use Rattle.partition.specs.Numbering.{Numbered}
 use Rattle.grouping.specs.Groups.{Same, Grouped}
-use Rattle.partition.specs.Parts.{numberOf, Renumbered, Fits}
+use Rattle.partition.specs.Parts.{numberOf, Renumbered}
 use Rattle.partition.specs.Members.{flag, Members, dirtyCount}
-use Rattle.refine.specs.Splits.{Settled, SplitUp}
+use Rattle.refine.specs.Splits.{Settled, SplitUp, Parted, PartsNumbered}
 use Rattle.theory.specs.Equality.{not-both}
 
 -- whether a state is among the first i found
@@ -113,7 +113,7 @@ module _ {a : ℕ} {profile : ℕ → List Entry} {n D total many clean parts ke
     (numbered : Numbered n blocks total) (members : Members D n blocks dirty found many clean) (grouped : Grouped a profile many found parts part)
     (keeps : keeper < parts) where
   -- a state that is found twice is in one part
-  pub split-agree : (i k : ℕ) → i < many → k < many → getD found i 0 ≡ getD found k 0 → getD part i 0 ≡ getD part k 0
+  split-agree : (i k : ℕ) → i < many → k < many → getD found i 0 ≡ getD found k 0 → getD part i 0 ≡ getD part k 0
   split-agree i k l m e = grouped .apart i k l m (λ j. ap (λ (q : ℕ). sumAt a (profile q) j) e)
 
   block-known : D < total
@@ -166,14 +166,8 @@ module _ {a : ℕ} {profile : ℕ → List Entry} {n D total many clean parts ke
   planned-else zero q h d = refl
   planned-else (suc i) q h d = rw (ne-eqb (getD found i 0) q (λ e. d (ap (λ (x : ℕ). getD blocks x 0) (sym e) ∙ members .members i (omega arith) .1))) (planned-else i q (omega arith) d)
 
-  pub split-few : total + parts - 1 ≤ n
+  split-few : total + parts - 1 ≤ n
   split-few = blocks-few n (planned many) (total + parts - 1) (all-used (planned many) (λ k l. planned-own many k (omega arith) l) (λ q l d. planned-else many q (omega arith) d))
-
-  pub split-fits : n ≤ 256 → (i : ℕ) → i < many → Fits keeper total (getD part i 0)
-  split-fits few i l = record {
-    lower = λ h. omega (arith, split-few);
-    higher = λ h. omega (arith, split-few, grouped .within i l);
-  }
 
   module _ (Depend : ℕ → ℕ → Type 0) {blocks′ : List ℕ} {dirty′ dirty″ : List Bool} (settled : Settled a profile n blocks dirty)
       (of-clean : clean < 256 → keeper ≡ getD part clean 0) (renumbered : Renumbered many D total keeper found part blocks dirty blocks′ dirty′)
@@ -275,7 +269,7 @@ module _ {a : ℕ} {profile : ℕ → List Entry} {n D total many clean parts ke
         below q l (yes e) = let x = located q l e in rw (x .number) (fits (number-is keeper D total (getD part (x .place) 0)) (grouped .within (x .place) (x .placed)))
         below q l (no d) = rw (elsewhere q d) (omega (arith, numbered .below q l))
 
-    pub split-up : (1 < parts) ⊎ ((parts ≡ 1) × (dirtyCount dirty″ n < dirtyCount dirty n))
+    split-up : (1 < parts) ⊎ ((parts ≡ 1) × (dirtyCount dirty″ n < dirtyCount dirty n))
         → SplitUp a profile Depend n D blocks dirty total blocks′ dirty″ (total + parts - 1)
     split-up more = record {
       elsewhere = λ p l d. elsewhere p d;
@@ -289,7 +283,7 @@ module _ {a : ℕ} {profile : ℕ → List Entry} {n D total many clean parts ke
     }
 
   -- the dirt of the block is cleared
-  pub fewer-dirty : {blocks′ : List ℕ} {dirty′ : List Bool} → Renumbered many D total keeper found part blocks dirty blocks′ dirty′ → (x : ℕ) → x < n → getD blocks x 0 ≡ D → flag dirty x ≡ true
+  fewer-dirty : {blocks′ : List ℕ} {dirty′ : List Bool} → Renumbered many D total keeper found part blocks dirty blocks′ dirty′ → (x : ℕ) → x < n → getD blocks x 0 ≡ D → flag dirty x ≡ true
       → dirtyCount dirty′ n < dirtyCount dirty n
   fewer-dirty {dirty′ = dirty′} renumbered x l b t = count-less dirty dirty′ n x (λ q h e. was q e (found-or-not found many q)) l t
       (let r = members .dirty-found x l b t in subst (λ (y : ℕ). flag dirty′ y ≡ false) (r .2) (renumbered .cleared (r .0) (r .1)))
@@ -297,3 +291,31 @@ module _ {a : ℕ} {profile : ℕ → List Entry} {n D total many clean parts ke
       was : (q : ℕ) → flag dirty′ q ≡ true → ((k : ℕ) × (k < many) × (getD found k 0 ≡ q)) ⊎ ((k : ℕ) → k < many → getD found k 0 ≢ q) → flag dirty q ≡ true
       was q e (inl r) = absurd (not-both (flag dirty′ q) e (subst (λ (y : ℕ). flag dirty′ y ≡ false) (r .2) (renumbered .cleared (r .0) (r .1))))
       was q e (inr none) = sym (renumbered .others q none .1) ∙ e
+
+module _ {a : ℕ} {profile : ℕ → List Entry} {n D total many clean parts : ℕ} {blocks : List ℕ} {dirty : List Bool} {found part : List ℕ}
+    (numbered : Numbered n blocks total) (members : Members D n blocks dirty found many clean) (grouped : Grouped a profile many found parts part)
+    (x : ℕ) (known : x < n) (own : getD blocks x 0 ≡ D) (is-dirty : flag dirty x ≡ true) where
+  -- the parts of a block with a dirty state can be given numbers
+  pub parted : n ≤ 256 → Parted total many clean found parts part
+  parted few =
+      let some : 0 < many = omega (arith, members .dirty-found x known own is-dirty .1) in
+      let keeps = grouped .within 0 some in
+      record {
+        some = some;
+        few = omega (arith, members .few);
+        parts-few = grouped .few;
+        numbers-few = omega (arith, split-few numbered members grouped keeps);
+        within = grouped .within;
+        one-part = split-agree numbered members grouped keeps;
+        clean-place = λ l. members .clean-place l .0;
+      }
+
+  -- with those numbers, and the marks, the block is split
+  pub parts-split : {Depend : ℕ → ℕ → Type 0} {blocks′ : List ℕ} {dirty′ : List Bool} → Settled a profile n blocks dirty → PartsNumbered Depend D total many clean found parts part blocks dirty blocks′ dirty′
+      → SplitUp a profile Depend n D blocks dirty total blocks′ dirty′ (total + parts - 1)
+  parts-split {Depend} {dirty′ = dirty′} settled given =
+      split-up numbered members grouped (given .keeps) Depend settled (given .of-clean) (given .renumbered) (given .marked) (progress (ℕ-discrete parts 1))
+    where
+      progress : Dec (parts ≡ 1) → (1 < parts) ⊎ ((parts ≡ 1) × (dirtyCount dirty′ n < dirtyCount dirty n))
+      progress (yes e) = inr (e, rw (given .unmarked e) (fewer-dirty numbered members grouped (given .keeps) (given .renumbered) x known own is-dirty))
+      progress (no d) = inl (omega (arith, given .keeps))

@@ -2,7 +2,7 @@
 use Prim.Native.Nat.{ℕ, zero, suc, _+_, _-_, _≤_}
 use mathlib.Core.Path.{_≡_, subst}
 use mathlib.Core.Bool.{Bool, true, false, _&&_}
-use mathlib.Core.List.{List, [], _∷_}
+use mathlib.Core.List.{List, []}
 use native.Mathlib.Omega.{arith}
 use lib.ListN.{length, getD}
 use lib.Dec.{leb, ltb, eqb}
@@ -12,7 +12,7 @@ use Rattle.answers.specs.Numbers.{codeOf}
 use Rattle.numbers.specs.declared.NumberRead.{NumberRead}
 use Rattle.numbers.specs.declared.NumberRead.the-variants.{Number, Refused}
 use Rattle.numbers.specs.Read.{choose, number, below, moreFrom, numberAt}
-use Rattle.model.specs.Table.{Table, Transition, key, lower}
+use Rattle.model.specs.Table.{key, lower}
 use Rattle.format.specs.Read.{Found, found, refused, after, provided, asFound, any, within, oneOf, listed, many, transitionAt, transitionsAt, tableRead}
 
 -- one of the table's numbers

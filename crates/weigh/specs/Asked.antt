@@ -5,7 +5,7 @@ use mathlib.Core.Bool.{true, false, cond}
 use mathlib.Core.List.{List, _++_}
 use lib.Dec.{leb}
 use lib.IntN.{ℤ, pos}
-use lib.ListN.{length, drop}
+use lib.ListN.{drop}
 use Rattle.model.specs.Table.{Table}
 use Rattle.model.specs.Tree.{Tree}
 use Rattle.theory.specs.Arithmetic.{sheetNumber}

@@ -1,8 +1,7 @@
 -- The promise on document 01's table A and the tree g(a): P4, and what is refused.
-use Prim.Native.Nat.{ℕ}
 use mathlib.Core.Path.{_≡_, refl}
 use mathlib.Core.Bool.{true}
-use mathlib.Core.List.{List, [], _∷_}
+use mathlib.Core.List.{[], _∷_}
 use lib.IntN.{pos}
 use Rattle.answers.specs.declared.Refusal.the-variants.{TableEnds, UnknownSymbol, RoomTooShort}
 use Rattle.answers.specs.declared.Answer.the-variants.{Done}

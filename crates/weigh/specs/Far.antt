@@ -6,9 +6,9 @@ use mathlib.Core.Bool.{Bool, true, false, cond}
 use mathlib.Core.List.{List}
 use native.Mathlib.Omega.{arith}
 use lib.Dec.{T, leb}
-use lib.IntN.{ℤ, pos, negsuc, natAbs}
+use lib.IntN.{ℤ, negsuc, natAbs}
 use lib.ListN.{length, getD}
-use Rattle.model.specs.Table.{Table, Transition, Each, Proper, ProperTransition}
+use Rattle.model.specs.Table.{Table, Proper, ProperTransition}
 use Rattle.model.specs.Tree.{Tree, prefix}
 use Rattle.model.specs.Each.{each-implies}
 use Rattle.theory.specs.MaxPlus.{Value, nothing, number}

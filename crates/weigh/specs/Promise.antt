@@ -21,7 +21,7 @@ use Rattle.trees.specs.Read.{treeRead}
 use Rattle.trees.specs.Finished.{treeOf}
 use Rattle.trees.specs.Written.{Written, sound, read-back}
 use Rattle.weigh.specs.declared.Weighing.{Weighing}
-use Rattle.weigh.specs.Asked.{weighed, refused as refusing, withRoom, withTree, withTable, asked, answered, filled}
+use Rattle.weigh.specs.Asked.{weighed, refused as refusing, withTree, withTable, asked, answered, filled}
 
 -- a refused weighing has weight 0 and says that there is none
 abbrev pub refusedBy : Refusal → Weighing

@@ -5,9 +5,9 @@ use native.Mathlib.Numerals.{add-one}
 use native.Mathlib.Omega.{arith}
 use borrow.Author.Needs.{needs}
 use lib.ListN.{getD}
-use Rattle.theory.specs.Direction.{direction as sideOf}
+use Rattle.theory.specs.Direction.{direction as sideOf, other}
 use Rattle.uses.specs.Lists.{start, starts-ascend}
-use Rattle.dependents.specs.Marks.{Marked, SomeIn, LeadsTo, otherSide}
+use Rattle.dependents.specs.Marks.{Marked, SomeIn, LeadsTo}
 use Rattle.dependents.proofs.Marking.{marking-none, marking-next, marking-less}
 use Rattle.dependents.proofs.mark.Statement.{statement}
 use Rattle.dependents.proofs.mark.Tie as tie
@@ -50,7 +50,7 @@ at-most c =
     let more = c .loop-test .taken in
     let p = c .before .before .before .before .before .before .wide .result in
     let end : c .before .before .wide162 .result ≡ start (a .starts .now) (p + 1) = c .before .before .wide162 .ensures .0 in
-    let most = starts-ascend (otherSide (sideOf (a .direction))) (a .ranks .now) (a .symbol .now) (a .starts .now) (a .list .now) (c .before .before .before .before .before .before .before .pre .2) (p + 1) 256 (omega arith) (omega arith) in
+    let most = starts-ascend (other (sideOf (a .direction))) (a .ranks .now) (a .symbol .now) (a .starts .now) (a .list .now) (c .before .before .before .before .before .before .before .pre .2) (p + 1) 256 (omega arith) (omega arith) in
     omega arith
 
 loop-holds : tie.Need-loop-holds Inv-loop μ-loop
