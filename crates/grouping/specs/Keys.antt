@@ -1,4 +1,4 @@
--- The key of a use under blocks, packed into one number with the symbol in the highest place.
+-- The key of a use under blocks, packed into one number.
 use Prim.Native.Nat.{ℕ, _+_, _*_, _/_, _%_}
 use mathlib.Core.List.{List, [], _∷_, map}
 use lib.ListN.{getD, take, drop}
@@ -9,10 +9,11 @@ use Rattle.profiles.specs.Entries.{Entry}
 use Rattle.profiles.specs.Packing.{packed}
 use Rattle.uses.specs.Theory.{rowOf}
 
--- the first fixed number, a symbol, stands above 40 bits for the others and the blocks
+-- the first fixed number, a symbol (there are at most 128), stands above 40 bits for what follows; the second, a place, above the symbol
 abbrev pub packAll : List ℕ → List ℕ → ℕ
 packAll [] Ds = 0
-packAll (σ ∷ fixed) Ds = σ * 1099511627776 + packed (packed 0 fixed) Ds
+packAll (σ ∷ []) Ds = σ * 1099511627776 + packed 0 Ds
+packAll (σ ∷ k ∷ fixed) Ds = (k * 128 + σ) * 1099511627776 + packed (packed 0 fixed) Ds
 
 abbrev pub pack : Key → ℕ
 pack k = packAll (k .0) (k .1)

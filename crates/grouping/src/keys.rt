@@ -1,4 +1,4 @@
-// The profiles of states: the key of each use under the present blocks, packed into one number with the symbol in the highest place.
+// The profiles of states: the key of each use under the present blocks, packed into one number.
 
 use crate::wide;
 use crate::wide16;
@@ -47,7 +47,8 @@ fn key_into<'a>(
     long(own) * SYMBOL + packed
 }
 
-// Forward: the symbol, the place, the other children and the target's block.
+// Forward: the place, the symbol, the other children and the target's block. The uses of a state are listed place by place, and at one
+// place they ascend by symbol and other children, so with the place on top their keys ascend in all but the block.
 fn key_at<'a>(
     u: usize,
     ranks: &'a [u8; 128],
@@ -63,7 +64,7 @@ fn key_at<'a>(
     let place = u % 4;
     let own = symbol[j];
     let rank = wide(ranks[wide(own)]);
-    let mut packed = place as u64;
+    let mut packed: u64 = 0;
     let mut k = 0;
     while k < rank {
         if k != place {
@@ -71,7 +72,8 @@ fn key_at<'a>(
         }
         k += 1;
     }
-    long(own) * SYMBOL + (packed * 256 + digits[wide(target[j])] as u64)
+    let top = place as u64 * 128 + long(own);
+    top * SYMBOL + (packed * 256 + digits[wide(target[j])] as u64)
 }
 
 fn key_of<'a>(

@@ -1,33 +1,26 @@
 -- The lists of the index: each use of a state stands in the state's region, and each number there is a use.
 use Prim.Native.Nat.{ℕ, zero, suc, _+_, _-_, _≤_, _<_}
-use mathlib.Core.Bool.{Bool, true, false, cond}
-use mathlib.Core.List.{List, _∷_}
+use mathlib.Core.Bool.{true}
+use mathlib.Core.List.{List, _∷_, List·Memᴰ, List·Memᴰ·head, List·Memᴰ·tail}
 use mathlib.Core.Path.{_≡_, refl, sym, ap, _∙_, subst}
-use native.Mathlib.Decide.{ℕ-discrete, decLt}
+use native.Mathlib.Decide.{decLt}
 use native.Mathlib.Omega.{arith}
 use lib.ListN.{length, getD, take}
 use lib.Seq.{getD-take, getD-drop, slice}
 use Rattle.model.specs.Table.{Each}
 use Rattle.theory.specs.Direction.{Direction, backward, forward}
 use Rattle.model.specs.Each.{each-at}
-use Rattle.uses.specs.Numbers.{limit, chosen, isUseOf, totalBelow, startOf, Indexed}
-use Rattle.uses.specs.Theory.{rowOf, each-chosen}
+use Rattle.uses.specs.Numbers.{limit, numbersOf, chosen, isUseOf, totalBelow, startOf, Indexed}
+use Rattle.uses.specs.Places.{each-number, number-met, each-chosen, met-chosen}
+use Rattle.uses.specs.Theory.{rowOf}
 use Rattle.uses.specs.Lists.{Row, start, listed, ListedUses}
 use Rattle.tables.specs.declared.TableRecord.{TableRecord}
 use Rattle.refine.proofs.Known.{IndexOf}
 
--- a number that passes the test is chosen
-chosen-at : (test : ℕ → Bool) (i k u : ℕ) → i ≤ u → u < i + k → test u ≡ true → (m : ℕ) × (m < length (chosen test i k)) × (getD (chosen test i k) m 0 ≡ u)
-chosen-at test i zero u l h t = absurd (omega arith)
-chosen-at test i (suc k) u l h t = go (ℕ-discrete i u) (test i) refl (chosen-at test (suc i) k u)
-  where
-    Found : List ℕ → Type 0
-    Found us = (m : ℕ) × (m < length us) × (getD us m 0 ≡ u)
-
-    go : Dec (i ≡ u) → (c : Bool) → test i ≡ c → (suc i ≤ u → u < suc i + k → test u ≡ true → Found (chosen test (suc i) k)) → Found (cond (test i) (i ∷ chosen test (suc i) k) (chosen test (suc i) k))
-    go (yes e) c f ih = let t′ : test i ≡ true = rw e t in rw t′ (0, omega arith, e)
-    go (no d) true f ih = let r = ih (omega arith) (omega arith) t in rw f (suc (r .0), omega (arith, r .1), r .2)
-    go (no d) false f ih = rw f (ih (omega arith) (omega arith) t)
+-- where a member stands
+met-at : (us : List ℕ) {u : ℕ} → List·Memᴰ u us → (m : ℕ) × (m < length us) × (getD us m 0 ≡ u)
+met-at (v ∷ us) (List·Memᴰ·head e) = (0, omega arith, sym e)
+met-at (v ∷ us) (List·Memᴰ·tail n) = let r = met-at us n in (suc (r .0), omega (arith, r .1), r .2)
 
 -- where a place below the sum of sizes lies
 located-in : (size : ℕ → ℕ) (n i : ℕ) → i < totalBelow size n → (p : ℕ) × (p < n) × (totalBelow size p ≤ i) × (i < totalBelow size (suc p))
@@ -74,7 +67,8 @@ module _ (t : TableRecord) (d : Direction) {starts list : List ℕ} (index : Ind
   pub use-listed : (p u : ℕ) → p < 256 → u < limit d (t .count) → isUseOf d (t .ranks) (t .symbol) (t .children) (t .target) p u ≡ true
       → (i : ℕ) × (start starts p ≤ i) × (i < start starts (suc p)) × (getD list i 0 ≡ u)
   use-listed p u l h e =
-      let r = chosen-at (isUseOf d (t .ranks) (t .symbol) (t .children) (t .target) p) 0 (limit d (t .count)) u (omega arith) (omega arith) e in
+      let own = isUseOf d (t .ranks) (t .symbol) (t .children) (t .target) p in
+      let r = met-at (chosen own (numbersOf d (t .count))) (met-chosen own (numbersOf d (t .count)) (number-met d (t .count) u h) e) in
       in-region index p u (r .0) l (r .1) (r .2)
 
   pub uses-listed : ((j : ℕ) → j < t .count → Row (t .ranks) (t .symbol) j) → ListedUses d (t .ranks) (t .symbol) starts list
@@ -83,7 +77,7 @@ module _ (t : TableRecord) (d : Direction) {starts list : List ℕ} (index : Ind
     few = omega (arith, index .begin 256 (omega arith), index .few);
     starts-long = index .starts-long;
     list-long = index .list-long;
-    rows = each-listed index (λ u. Row (t .ranks) (t .symbol) (rowOf d u)) (λ p l. each-chosen _ _ 0 (limit d (t .count)) (λ u h k e. row (rowOf d u) (of-row d u (omega arith))));
+    rows = each-listed index (λ u. Row (t .ranks) (t .symbol) (rowOf d u)) (λ p l. each-chosen _ _ (numbersOf d (t .count)) (each-number _ d (t .count) (λ u h. row (rowOf d u) (of-row d u h))));
   }
     where
       of-row : (d : Direction) (u : ℕ) → u < limit d (t .count) → rowOf d u < t .count

@@ -12,22 +12,22 @@ use lib.Seq.{getD-take, getD-drop}
 use Rattle.model.specs.Table.{Each, Proper}
 use Rattle.tables.specs.Record.{Columns, rowAt, tableOf, Holds}
 use Rattle.tables.specs.declared.TableRecord.{TableRecord}
-use Rattle.theory.specs.Arithmetic.{arithmetic, Weight, meaning, meaning-same}
+use Rattle.theory.specs.Arithmetic.{arithmetic, meaning, meaning-same}
 use Rattle.theory.specs.Direction.{Direction, backward, forward, direction, other}
 use Rattle.model.specs.Each.{each-implies, each-map, each-append, each-places}
 use Rattle.theory.specs.Equality.{numbers}
-use Rattle.theory.specs.Profile.{Use, Key, keyOf, packedSum, packed-profile, profile-packed, SameProfile, Independent}
+use Rattle.theory.specs.Profile.{Key, keyOf, packedSum, packed-profile, profile-packed, SameProfile, Independent}
 use Rattle.theory.specs.Sum.{only, sum-map, sum-same}
 use Rattle.theory.specs.Uses.{others, grade}
 use Rattle.profiles.specs.Sums.{sumAt}
-use Rattle.uses.specs.Numbers.{limit, isUse, stateOf, chosen, isUseOf, usesOf}
-use Rattle.uses.specs.Theory.{rowOf, useOf, rankAt, uses-numbered, use-state, sum-of-state, each-chosen}
+use Rattle.uses.specs.Numbers.{limit, isUse, stateOf, isUseOf, usesOf}
+use Rattle.uses.specs.Theory.{rowOf, useOf, rankAt, each-use, use-state, sum-of-state}
 use Rattle.partition.specs.Numbering.{MayShare}
 use Rattle.grouping.specs.Groups.{Same}
 use Rattle.grouping.specs.Keys.{pack, keyIn, entryOf}
 use Rattle.dependents.specs.Marks.{LeadsTo}
-use Rattle.refine.proofs.Apart.{pack-same}
-use Rattle.refine.proofs.Known.{usesIn, IndexOf, profilesOf, DependsIn, transition, ranked, child-known, final-fits}
+use Rattle.refine.proofs.Apart.{top-same, pack-same}
+use Rattle.refine.proofs.Known.{usesIn, IndexOf, profilesOf, DependsIn, transition, symbol-known, ranked, child-known, final-fits}
 use Rattle.tables.specs.Rows.{columnsOf}
 use Rattle.refine.proofs.Listed.{listed-is, use-listed}
 
@@ -47,20 +47,15 @@ key-is a backward c b u = refl
 key-is a forward c b u = refl
 
 module _ {t : TableRecord} (holds : Holds t (tableOf t)) (proper : Proper (tableOf t)) where
-  -- what holds of each use by number holds of each use
-  each-use : (d : Direction) (P : Use (Weight (t .arithmetic)) → Type 0) → ((u : ℕ) → u < limit d (t .count) → isUse d (t .ranks) (t .symbol) u ≡ true → P (useOf (t .arithmetic) d (columnsOf t) u)) → Each P (usesIn t d)
-  each-use d P h =
-      let own = useOf (t .arithmetic) d (columnsOf t) in
-      rw (uses-numbered (t .arithmetic) (columnsOf t) d (t .count) (ranked holds proper)) (each-map P own (chosen (isUse d (t .ranks) (t .symbol)) 0 (limit d (t .count)))
-      (each-chosen (isUse d (t .ranks) (t .symbol)) (λ u. P (own u)) 0 (limit d (t .count)) (λ u l m e. h u (omega arith) e)))
-
   module _ (b : ℕ → ℕ) (bytes : (q : ℕ) → q < t .states → b q < 256) where
     -- the keys of two uses are told apart by packing
     tells : (d : Direction) (u v : ℕ) → u < limit d (t .count) → isUse d (t .ranks) (t .symbol) u ≡ true → v < limit d (t .count) → isUse d (t .ranks) (t .symbol) v ≡ true
         → pack (keyOf b (useOf (t .arithmetic) d (columnsOf t) v)) ≡ pack (keyOf b (useOf (t .arithmetic) d (columnsOf t) u)) → keyOf b (useOf (t .arithmetic) d (columnsOf t) v) ≡ keyOf b (useOf (t .arithmetic) d (columnsOf t) u)
-    tells backward u v lu tu lv tv = pack-same (getD (t .symbol) v 0) (getD (t .symbol) u 0) [] [] (blocks v) (blocks u)
+    tells backward u v lu tu lv tv e =
+        let r = pack-same (getD (t .symbol) v 0) (getD (t .symbol) u 0) [] [] (blocks v) (blocks u)
         (digits v lv) (digits u lu) (omega (arith, long v lv, ranked holds proper v lv .1)) (omega (arith, long u lu, ranked holds proper u lu .1))
-        (λ e. (refl, long v lv ∙ ap (λ (s : ℕ). getD (t .ranks) s 0) e ∙ sym (long u lu)))
+        (λ same. (refl, long v lv ∙ ap (λ (s : ℕ). getD (t .ranks) s 0) same ∙ sym (long u lu))) e in
+        λ i. (r .0 i ∷ [], r .2 i)
       where
         blocks : ℕ → List ℕ
         blocks j = map b (rowAt (columnsOf t) j .children)
@@ -71,10 +66,19 @@ module _ {t : TableRecord} (holds : Holds t (tableOf t)) (proper : Proper (table
 
         long : (j : ℕ) → j < t .count → length (blocks j) ≡ rankAt (columnsOf t) j
         long j l = length-map (rowAt (columnsOf t) j .children) b ∙ ranked holds proper j l .0
-    tells forward u v lu tu lv tv = pack-same (getD (t .symbol) (v / 4) 0) (getD (t .symbol) (u / 4) 0) (v % 4 ∷ rest v) (u % 4 ∷ rest u) (b (getD (t .target) (v / 4) 0) ∷ []) (b (getD (t .target) (u / 4) 0) ∷ [])
+    tells forward u v lu tu lv tv e =
+        let r = pack-same (v % 4 * 128 + symbol v) (u % 4 * 128 + symbol u) (rest v) (rest u) (b (getD (t .target) (v / 4) 0) ∷ []) (b (getD (t .target) (u / 4) 0) ∷ [])
         (digits v lv) (digits u lu) (omega (arith, long v lv tv, ranked holds proper (v / 4) (omega arith) .1)) (omega (arith, long u lu tu, ranked holds proper (u / 4) (omega arith) .1))
-        (λ e. (long v lv tv ∙ ap (λ (s : ℕ). getD (t .ranks) s 0) e ∙ sym (long u lu tu), refl))
+        (λ same. (omega (arith, long v lv tv, long u lu tu, ap (λ (s : ℕ). getD (t .ranks) s 0) (tops same .1)), refl)) e in
+        let top = tops (r .0) in
+        λ i. (top .1 i ∷ top .0 i ∷ r .1 i, r .2 i)
       where
+        symbol : ℕ → ℕ
+        symbol w = getD (t .symbol) (w / 4) 0
+
+        tops : v % 4 * 128 + symbol v ≡ u % 4 * 128 + symbol u → (v % 4 ≡ u % 4) × (symbol v ≡ symbol u)
+        tops = top-same (v % 4) (u % 4) (symbol v) (symbol u) (symbol-known holds proper (v / 4) (omega arith)) (symbol-known holds proper (u / 4) (omega arith))
+
         rest : ℕ → List ℕ
         rest w = others (w % 4) (rowAt (columnsOf t) (w / 4) .children)
 
@@ -83,14 +87,12 @@ module _ {t : TableRecord} (holds : Holds t (tableOf t)) (proper : Proper (table
             let r = ranked holds proper (w / 4) (omega arith) in
             others-length (w % 4) (rowAt (columnsOf t) (w / 4) .children) (omega (arith, ltb-true (w % 4) (rankAt (columnsOf t) (w / 4)) e, r .0)) ∙ r .0
 
-        digits : (w : ℕ) → w < t .count * 4 → Each (λ x. x < 256) ((w % 4 ∷ rest w) ++ (b (getD (t .target) (w / 4) 0) ∷ []))
+        digits : (w : ℕ) → w < t .count * 4 → Each (λ x. x < 256) (rest w ++ (b (getD (t .target) (w / 4) 0) ∷ []))
         digits w l =
-            let known = transition holds proper (w / 4) (omega arith) in (
-              omega arith,
-              each-append (λ x. x < 256) (rest w) (b (getD (t .target) (w / 4) 0) ∷ [])
-                  (each-implies (λ q. q < t .states) (λ x. x < 256) (λ q h. omega (arith, proper .states-few)) (rest w) (each-others (λ q. q < t .states) (w % 4) (rowAt (columnsOf t) (w / 4) .children) (known .children-known)))
-                  (bytes (getD (t .target) (w / 4) 0) (known .target-known), tt),
-            )
+            let known = transition holds proper (w / 4) (omega arith) in
+            each-append (λ x. x < 256) (rest w) (b (getD (t .target) (w / 4) 0) ∷ [])
+            (each-implies (λ q. q < t .states) (λ x. x < 256) (λ q h. omega (arith, proper .states-few)) (rest w) (each-others (λ q. q < t .states) (w % 4) (rowAt (columnsOf t) (w / 4) .children) (known .children-known)))
+            (bytes (getD (t .target) (w / 4) 0) (known .target-known), tt)
 
     module _ (d : Direction) {starts list : List ℕ} (index : IndexOf t d starts list) where
       profile-sum : (p : ℕ) → p < t .states → (j : ℕ) → sumAt (t .arithmetic) (profilesOf t d starts list b p) j ≡ packedSum (arithmetic (t .arithmetic)) (usesIn t d) numbers pack b j p
@@ -107,7 +109,7 @@ module _ {t : TableRecord} (holds : Holds t (tableOf t)) (proper : Proper (table
           → Same (t .arithmetic) (profilesOf t d starts list b p) (profilesOf t d starts list b q) ↔ SameProfile (arithmetic (t .arithmetic)) (usesIn t d) b p q
       same-profile p q lp lq = (
         λ h. packed-profile (arithmetic (t .arithmetic)) (usesIn t d) numbers pack b
-            (each-use d _ (λ u lu tu. each-use d _ (λ v lv tv. tells d u v lu tu lv tv))) p q (λ j. sym (profile-sum p lp j) ∙ h j ∙ profile-sum q lq j),
+            (each-use (t .arithmetic) (columnsOf t) d (t .count) (ranked holds proper) _ (λ u lu tu. each-use (t .arithmetic) (columnsOf t) d (t .count) (ranked holds proper) _ (λ v lv tv. tells d u v lu tu lv tv))) p q (λ j. sym (profile-sum p lp j) ∙ h j ∙ profile-sum q lq j),
         λ s j. profile-sum p lp j ∙ profile-packed (arithmetic (t .arithmetic)) (usesIn t d) numbers pack b p q s j ∙ sym (profile-sum q lq j),
       )
 
@@ -115,7 +117,7 @@ module _ {t : TableRecord} (holds : Holds t (tableOf t)) (proper : Proper (table
   module _ (d : Direction) {starts list : List ℕ} (index : IndexOf t (other d) starts list) (b b′ : ℕ → ℕ) (p : ℕ)
       (kept : (r : ℕ) → r < t .states → DependsIn t d starts list r p → b r ≡ b′ r) where
     pub independent : Independent (arithmetic (t .arithmetic)) (usesIn t d) b b′ p
-    independent = each-use d _ (λ u l e f. go d index kept u l e (sym (use-state (t .arithmetic) (columnsOf t) d u e) ∙ f))
+    independent = each-use (t .arithmetic) (columnsOf t) d (t .count) (ranked holds proper) _ (λ u l e f. go d index kept u l e (sym (use-state (t .arithmetic) (columnsOf t) d u e) ∙ f))
       where
         go : (d : Direction) → IndexOf t (other d) starts list → ((r : ℕ) → r < t .states → DependsIn t d starts list r p → b r ≡ b′ r)
             → (u : ℕ) → u < limit d (t .count) → isUse d (t .ranks) (t .symbol) u ≡ true → stateOf d (t .children) (t .target) u ≡ p → Each (λ r. b r ≡ b′ r) (useOf (t .arithmetic) d (columnsOf t) u .through)

@@ -1,6 +1,6 @@
 pub mod Building
 pub mod Chosen
 pub mod Counting
+pub mod Order
 pub mod Placing
-pub mod Sides
 pub mod Totals

@@ -1,4 +1,5 @@
 pub mod Lists
 pub mod Numbers
+pub mod Places
 pub mod Steps
 pub mod Theory

@@ -3,7 +3,6 @@ use Prim.Native.Nat.{_%_, ℕ, _+_, _-_, _*_, _/_, _≤_, _<_}
 use mathlib.Core.List.{List}
 use mathlib.Core.Logic.{⊎-elim}
 use mathlib.Core.Path.{ap₂, _≡_, sym, ap, _∙_}
-use native.Mathlib.Nat.{zero-add}
 use native.Mathlib.Omega.{arith}
 use borrow.Author.Needs.{needs}
 use lib.ListN.{getD, take, drop}
@@ -16,7 +15,7 @@ use Rattle.grouping.proofs.keys.key_at.Tie as tie
 
 abbrev Inv-loop : tie.InvT-loop
 Inv-loop u ranks symbol children target digits j place own rank packed₀ k₀ packed k =
-    (k ≤ rank) × (Packing.packed packed (elsewhere place k (drop k (take rank (drop (j * 4) children)))) ≡ Packing.packed place (others place (take rank (drop (j * 4) children)))) × (packed < room (k + 1))
+    (k ≤ rank) × (Packing.packed packed (elsewhere place k (drop k (take rank (drop (j * 4) children)))) ≡ Packing.packed 0 (others place (take rank (drop (j * 4) children)))) × (packed < room k)
 
 abbrev μ-loop : tie.MeasureT-loop
 μ-loop u ranks symbol children target digits j place own rank packed₀ k₀ packed k = rank - k
@@ -42,12 +41,12 @@ rank-few c = rw (rank-is (c .before)) (c .before .before .before .before .before
 
 packed-few : (c : tie.At-loop Inv-loop μ-loop) → c .loop .packed < 1099511627776
 packed-few c =
-    let few : c .loop .k + 1 ≤ 5 = omega (arith, rank-is c, c .before .before .before .before .before .pre .3 .rank-small) in
-    let most : room (c .loop .k + 1) ≤ 1099511627776 = room-ascends (c .loop .k + 1) 5 few in
+    let few : c .loop .k ≤ 5 = omega (arith, rank-is c, c .before .before .before .before .before .pre .3 .rank-small) in
+    let most : room (c .loop .k) ≤ 1099511627776 = room-ascends (c .loop .k) 5 few in
     omega arith
 
 loop-holds : tie.Need-loop-holds Inv-loop μ-loop
-loop-holds c = (omega arith, ap (Packing.packed (c .before .before .before .before .args .u % 4)) (elsewhere-others (c .before .before .before .before .args .u % 4) (take (c .wide2 .result) (drop (c .before .before .before .before .args .u / 4 * 4) (c .before .before .before .before .args .children .now)))), omega arith)
+loop-holds c = (omega arith, ap (Packing.packed 0) (elsewhere-others (c .before .before .before .before .args .u % 4) (take (c .wide2 .result) (drop (c .before .before .before .before .args .u / 4 * 4) (c .before .before .before .before .args .children .now)))), omega arith)
 
 mul-packed : tie.Need-mul-packed Inv-loop μ-loop
 mul-packed c = let most = packed-few (c .before .before) in omega arith
@@ -82,12 +81,18 @@ loop-again c =
     let inside = c .before .before .before .before .before .before .before .pre .3 .inside in
     let few = rank-few (c .before) in
     ⊎-elim
-    (λ w. (omega arith, rw (w .3, w .2 .ensures .0) (sym (packing-next (a .children .now) (a .u / 4) (c .before .before .before .wide2 .result) (l .k) (a .u % 4) (l .packed) long inside few more (w .0 .taken)) ∙ l .inv .1), rw (w .3) (room-next (l .packed) (l .k + 1) (w .2 .result) (l .inv .2) (w .2 .ensures .1))))
-    (λ w. (omega arith, rw (w .1) (sym (packing-skips (a .children .now) (a .u / 4) (c .before .before .before .wide2 .result) (l .k) (a .u % 4) (l .packed) long inside few more (w .0 .left)) ∙ l .inv .1), rw (w .1) (room-more (l .packed) (l .k + 1) (l .inv .2))))
+    (λ w. (omega arith, rw (w .3, w .2 .ensures .0) (sym (packing-next (a .children .now) (a .u / 4) (c .before .before .before .wide2 .result) (l .k) (a .u % 4) (l .packed) long inside few more (w .0 .taken)) ∙ l .inv .1), rw (w .3) (room-next (l .packed) (l .k) (w .2 .result) (l .inv .2) (w .2 .ensures .1))))
+    (λ w. (omega arith, rw (w .1) (sym (packing-skips (a .children .now) (a .u / 4) (c .before .before .before .wide2 .result) (l .k) (a .u % 4) (l .packed) long inside few more (w .0 .left)) ∙ l .inv .1), rw (w .1) (room-more (l .packed) (l .k) (l .inv .2))))
     (c .if1 .came)
+
+mul-top : tie.Need-mul-top Inv-loop μ-loop
+mul-top c = search needs
 
 long-requires-2 : tie.Need-long-requires-2 Inv-loop μ-loop
 long-requires-2 c κs = search needs
+
+add-top : tie.Need-add-top Inv-loop μ-loop
+add-top c = search needs
 
 mul-result : tie.Need-mul-result Inv-loop μ-loop
 mul-result c = search needs
@@ -130,11 +135,11 @@ returns : tie.Need-returns Inv-loop μ-loop
 returns c =
     let a = c .before .before .before .before .before .before .before .before .before .before .args in
     let l = c .before .before .before .before .before .loop in
-    let done : l .packed ≡ Packing.packed (a .u % 4) (others (a .u % 4) (take (c .before .before .before .before .before .before .wide2 .result) (drop (a .u / 4 * 4) (a .children .now)))) =
+    let done : l .packed ≡ Packing.packed 0 (others (a .u % 4) (take (c .before .before .before .before .before .before .wide2 .result) (drop (a .u / 4 * 4) (a .children .now)))) =
     sym (ap (λ (qs : List ℕ). Packing.packed (l .packed) (elsewhere (a .u % 4) (l .k) qs)) (children-end (drop (a .u / 4 * 4) (a .children .now)) (c .before .before .before .before .before .before .wide2 .result) (l .k) (c .before .before .before .before .loop-test .left))) ∙ l .inv .1 in
-    let whole : l .packed ≡ Packing.packed (0 + a .u % 4) (others (a .u % 4) (take (getD (a .ranks .now) (getD (a .symbol .now) (a .u / 4) 0) 0) (drop (a .u / 4 * 4) (a .children .now)))) =
-    done ∙ ap₂ (λ (n r : ℕ). Packing.packed n (others (a .u % 4) (take r (drop (a .u / 4 * 4) (a .children .now))))) (sym (zero-add (a .u % 4))) (rank-is (c .before .before .before .before .before)) in
-    ap₂ (λ (x y : ℕ). x * 1099511627776 + y) (c .before .before .before .long2 .ensures .0) (ap₂ (λ (x y : ℕ). x * 256 + y) whole (ap (λ (q : ℕ). getD (a .digits .now) q 0) (c .before .wide3 .ensures .0)))
+    let whole : l .packed ≡ Packing.packed 0 (others (a .u % 4) (take (getD (a .ranks .now) (getD (a .symbol .now) (a .u / 4) 0) 0) (drop (a .u / 4 * 4) (a .children .now)))) =
+    done ∙ ap (λ (r : ℕ). Packing.packed 0 (others (a .u % 4) (take r (drop (a .u / 4 * 4) (a .children .now))))) (rank-is (c .before .before .before .before .before)) in
+    ap₂ (λ (x y : ℕ). (a .u % 4 * 128 + x) * 1099511627776 + y) (c .before .before .before .long2 .ensures .0) (ap₂ (λ (x y : ℕ). x * 256 + y) whole (ap (λ (q : ℕ). getD (a .digits .now) q 0) (c .before .wide3 .ensures .0)))
 
 pub key-at-spec : {M : Type 1} → statement M
 key-at-spec =
@@ -156,7 +161,9 @@ key-at-spec =
     add-k
     loop-less
     loop-again
+    mul-top
     long-requires-2
+    add-top
     mul-result
     mul-result-2
     element-copy-out-wide-2
