@@ -7,17 +7,12 @@ use lib.ListN.{length, getD, take, drop}
 use Rattle.model.specs.Table.{Table, Transition}
 use Rattle.theory.specs.Direction.{Direction}
 use Rattle.theory.specs.Entry.{blockKey}
+use Rattle.tables.specs.Rows.{Row}
 use Rattle.tables.specs.Record.{Columns, rowAt, rowsFrom}
 use Rattle.tables.specs.Steps.{Kept, Long}
 use Rattle.profiles.specs.Entries.{Entry, entries}
 use Rattle.adding.specs.Keys.{pack, digits, transitionOf}
 use Rattle.adding.specs.Named.{counted}
-
--- transition j can be read: its symbol has a rank of at most 4
-pub record Row (ranks symbol : List ℕ) (j : ℕ) : Type 0 where
-  pub inside : j < 4000
-  pub known : getD symbol j 0 < 128
-  pub rank-small : getD ranks (getD symbol j 0) 0 ≤ 4
 
 -- the first so many transitions can be read
 abbrev pub Rows : List ℕ → List ℕ → ℕ → Type 0

@@ -22,7 +22,8 @@ ghost use Rattle.profiles.specs.Entries.{entries};
 ghost use Rattle.adding.specs.Keys.{Bytes, pack, transitionOf};
 ghost use Rattle.adding.specs.Named.{nameOf, Greatest, NamedBy, allNamed, counted};
 ghost use Rattle.adding.specs.Finals.{finalsAdded, finalFor};
-ghost use Rattle.adding.specs.Rows.{Row, Rows, gathered, Gathered, KeyKnown, DigitsPut, RowPut, Unpacked, tableWith};
+ghost use Rattle.tables.specs.Rows.{Row};
+ghost use Rattle.adding.specs.Rows.{Rows, gathered, Gathered, KeyKnown, DigitsPut, RowPut, Unpacked, tableWith};
 ghost use Rattle.adding.specs.Collapsing.{Collapsible, CollapsedTo};
 
 // The table collapsed by its blocks, of which there are `number`. Keys and codes are lent to work in.

@@ -69,7 +69,7 @@ pub enum Choice {
     RefusedSecond(Refusal),
 }
 
-pub fn compare(first: &[u8], second: &[u8]) -> Choice
+fn compare(first: &[u8], second: &[u8]) -> Choice
     ensures { λ r. ⌜ r ≡ picked (now (first .entry)) (now (second .entry)) ⌝ }
 {
     match size_of(first) {

@@ -7,7 +7,8 @@ ghost use Prim.Native.Nat.{_≤_, _<_};
 ghost use lib.ListN.{length};
 ghost use Rattle.theory.specs.Direction.{direction as sideOf, other};
 ghost use Rattle.uses.specs.Theory.{rowOf};
-ghost use Rattle.uses.specs.Lists.{Long, Row, ListedUses};
+ghost use Rattle.tables.specs.Rows.{Row};
+ghost use Rattle.uses.specs.Lists.{Long, ListedUses};
 ghost use Rattle.dependents.specs.Marks.{Marked, Child, LeadsTo, Depends, DependsOnMoved};
 
 fn wide(byte: u8) -> usize

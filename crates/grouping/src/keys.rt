@@ -13,7 +13,8 @@ ghost use Rattle.theory.specs.Direction.{direction as sideOf, backward, forward
 ghost use Rattle.profiles.specs.Entries.{Region};
 ghost use Rattle.profiles.specs.Kept.{Kept};
 ghost use Rattle.uses.specs.Theory.{rowOf};
-ghost use Rattle.uses.specs.Lists.{Long, Row, start, listed, ListedUses};
+ghost use Rattle.tables.specs.Rows.{Row};
+ghost use Rattle.uses.specs.Lists.{Long, start, listed, ListedUses};
 ghost use Rattle.grouping.specs.Keys.{pack, keyIn, entryOf};
 ghost use Rattle.grouping.specs.Steps.{Filled, Profiled, AllProfiled};
 

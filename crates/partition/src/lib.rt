@@ -48,15 +48,6 @@ impl BlockList {
         Block(self.list[i])
     }
 
-    pub fn with(self, q: State, block: Block) -> BlockList
-        ensures { λ r. ⌜ r .list ≡ set (self .list) (q .0) (block .0) ⌝ }
-    {
-        let mut next = self;
-        let i = wide(q.0);
-        next.list[i] = block.0;
-        next
-    }
-
     // The number of each state's block, as a digit of a key.
     pub fn digits(self) -> [u32; 256]
         ensures { λ r. ⌜ (r ≡ self .list) × ((q : ℕ) → getD r q 0 < 256) ⌝ }

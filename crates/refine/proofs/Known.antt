@@ -15,7 +15,7 @@ use Rattle.model.specs.Each.{each-at}
 use Rattle.theory.specs.Profile.{Use}
 use Rattle.theory.specs.Uses.{uses}
 use Rattle.profiles.specs.Entries.{Entry}
-use Rattle.uses.specs.Lists.{Row}
+use Rattle.tables.specs.Rows.{Row}
 use Rattle.uses.specs.Numbers.{usesOf, Indexed}
 use Rattle.uses.specs.Theory.{rankAt, Ranked}
 use Rattle.dependents.specs.Marks.{Depends}

@@ -13,7 +13,8 @@ use Rattle.model.specs.Each.{each-at}
 use Rattle.uses.specs.Numbers.{limit, numbersOf, chosen, isUseOf, totalBelow, startOf, Indexed}
 use Rattle.uses.specs.Places.{each-number, number-met, each-chosen, met-chosen}
 use Rattle.uses.specs.Theory.{rowOf}
-use Rattle.uses.specs.Lists.{Row, start, listed, ListedUses}
+use Rattle.tables.specs.Rows.{Row}
+use Rattle.uses.specs.Lists.{start, listed, ListedUses}
 use Rattle.tables.specs.declared.TableRecord.{TableRecord}
 use Rattle.refine.proofs.Known.{IndexOf}
 

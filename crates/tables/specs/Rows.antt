@@ -1,14 +1,20 @@
--- Laws of the rows of a record's columns.
+-- The rows of a record's columns.
 use Prim.Native.Nat.{ℕ, zero, suc, _+_, _≤_, _<_}
 use mathlib.Core.Path.{_≡_, refl, ap}
 use mathlib.Core.List.{List, [], _∷_}
 use native.Mathlib.Decide.{decLe}
 use native.Mathlib.Omega.{arith}
-use lib.ListN.{length, take, drop}
+use lib.ListN.{length, getD, take, drop}
 use lib.Seq.{take-take, take-nil}
 use Rattle.model.specs.Table.{Transition, Each}
 use Rattle.tables.specs.Record.{Columns, columns, rowAt, rowsFrom}
 use Rattle.tables.specs.declared.TableRecord.{TableRecord}
+
+-- transition j can be read: its symbol has a rank of at most 4
+pub record Row (ranks symbol : List ℕ) (j : ℕ) : Type 0 where
+  pub inside : j < 4000
+  pub known : getD symbol j 0 < 128
+  pub rank-small : getD ranks (getD symbol j 0) 0 ≤ 4
 
 abbrev pub columnsOf : TableRecord → Columns
 columnsOf r = columns (r .ranks) (r .symbol) (r .children) (r .target) (r .code)

@@ -7,6 +7,7 @@ use native.Mathlib.Omega.{arith}
 use lib.ListN.{length, getD}
 use lib.Seq.{slice}
 use Rattle.theory.specs.Direction.{Direction}
+use Rattle.tables.specs.Rows.{Row}
 use Rattle.uses.specs.Theory.{rowOf}
 
 -- the columns are as long as a table record's
@@ -15,12 +16,6 @@ pub record Long (ranks symbol children target : List ℕ) : Type 0 where
   pub symbol-long : length symbol ≡ 4000
   pub children-long : length children ≡ 16000
   pub target-long : length target ≡ 4000
-
--- transition j can be read: its symbol has a rank of at most 4
-pub record Row (ranks symbol : List ℕ) (j : ℕ) : Type 0 where
-  pub inside : j < 4000
-  pub known : getD symbol j 0 < 128
-  pub rank-small : getD ranks (getD symbol j 0) 0 ≤ 4
 
 -- where list p begins
 abbrev pub start : List ℕ → ℕ → ℕ

@@ -11,7 +11,7 @@ ghost use Rattle.writer.specs.Put.{Put};
 ghost use Rattle.writer.specs.Writable.{RowInside, Writable};
 
 // A number, in groups of seven bits; the place behind it is answered.
-pub fn put_number(room: &mut [u8], at: usize, number: u32) -> usize
+fn put_number(room: &mut [u8], at: usize, number: u32) -> usize
     requires { ⌜ at + length (written number) ≤ length (now room) ⌝ }
     ensures { λ r. ⌜ Put (now (room .entry)) at (written number) (now (room .exit)) r ⌝ }
 {

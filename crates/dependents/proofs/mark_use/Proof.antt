@@ -3,7 +3,7 @@ use Prim.Native.Nat.{_/_}
 use mathlib.Core.Path.{_≡_, _∙_}
 use borrow.Author.Needs.{needs}
 use Rattle.theory.specs.Direction.{side-forward}
-use Rattle.uses.specs.Lists.{Row}
+use Rattle.tables.specs.Rows.{Row}
 use Rattle.dependents.proofs.Marking.{marking-one, marking-less}
 use Rattle.dependents.proofs.mark_use.Statement.{statement}
 use Rattle.dependents.proofs.mark_use.Tie as tie

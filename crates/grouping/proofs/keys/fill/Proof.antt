@@ -8,7 +8,7 @@ use Rattle.theory.specs.Blocks.{blockOf}
 use Rattle.theory.specs.Direction.{direction as sideOf}
 use Rattle.uses.specs.Theory.{rowOf}
 use Rattle.grouping.specs.Keys.{pack, keyIn, entryOf}
-use Rattle.uses.specs.Lists.{Row}
+use Rattle.tables.specs.Rows.{Row}
 use Rattle.grouping.proofs.Filling.{Filling, filling-starts, filling-goes-on, filling-ends}
 use Rattle.grouping.proofs.keys.fill.Statement.{statement}
 use Rattle.grouping.proofs.keys.fill.Tie as tie
