@@ -39,60 +39,27 @@ fn long_number(table: &[u8], first: usize, low: u32) -> NumberRead
     requires { ⌜ (low < 128) × (first < length (now table)) ⌝ }
     ensures { λ r. ⌜ r ≡ below low (moreFrom 3 (now (table .entry)) first (first + 1)) ⌝ }
 {
-    if table.len() <= first + 1 {
-        return NumberRead::Refused(Refusal::TableEnds(table.len()));
+    let mut value = low;
+    // what a one counts in the group that is read next
+    let mut unit = 128;
+    let mut at = first + 1;
+    while at < table.len() {
+        let byte = wide(table[at]);
+        if byte == 0 {
+            return NumberRead::Refused(Refusal::BadNumber(first));
+        }
+        // in the fifth byte only four bits are left of 32
+        if unit == 268435456 && 16 <= byte {
+            return NumberRead::Refused(Refusal::BadNumber(first));
+        }
+        if byte < 128 {
+            return NumberRead::Number(value + unit * byte, Cursor { at: at + 1 });
+        }
+        value += unit * (byte - 128);
+        unit *= 128;
+        at += 1;
     }
-    let second = wide(table[first + 1]);
-    if second == 0 {
-        return NumberRead::Refused(Refusal::BadNumber(first));
-    }
-    if second < 128 {
-        return NumberRead::Number(low + 128 * second, Cursor { at: first + 2 });
-    }
-    if table.len() <= first + 2 {
-        return NumberRead::Refused(Refusal::TableEnds(table.len()));
-    }
-    let third = wide(table[first + 2]);
-    if third == 0 {
-        return NumberRead::Refused(Refusal::BadNumber(first));
-    }
-    if third < 128 {
-        return NumberRead::Number(
-            low + 128 * (second - 128) + 16384 * third,
-            Cursor { at: first + 3 },
-        );
-    }
-    if table.len() <= first + 3 {
-        return NumberRead::Refused(Refusal::TableEnds(table.len()));
-    }
-    let fourth = wide(table[first + 3]);
-    if fourth == 0 {
-        return NumberRead::Refused(Refusal::BadNumber(first));
-    }
-    if fourth < 128 {
-        return NumberRead::Number(
-            low + 128 * (second - 128) + 16384 * (third - 128) + 2097152 * fourth,
-            Cursor { at: first + 4 },
-        );
-    }
-    if table.len() <= first + 4 {
-        return NumberRead::Refused(Refusal::TableEnds(table.len()));
-    }
-    let fifth = wide(table[first + 4]);
-    if fifth == 0 {
-        return NumberRead::Refused(Refusal::BadNumber(first));
-    }
-    if 16 <= fifth {
-        return NumberRead::Refused(Refusal::BadNumber(first));
-    }
-    NumberRead::Number(
-        low
-            + 128 * (second - 128)
-            + 16384 * (third - 128)
-            + 2097152 * (fourth - 128)
-            + 268435456 * fifth,
-        Cursor { at: first + 5 },
-    )
+    NumberRead::Refused(Refusal::TableEnds(table.len()))
 }
 
 fn wide(byte: u8) -> u32

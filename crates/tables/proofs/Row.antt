@@ -7,11 +7,12 @@ use lib.ListN.{length, take, drop, getD, set, length-set}
 use lib.Seq.{length-take-le, getD-take, getD-set-same, take-set-le}
 use Rattle.answers.specs.declared.Refusal.{Refusal}
 use Rattle.numbers.specs.declared.Cursor.{Cursor}
-use Rattle.format.specs.Read.{Found, found, refused, after, oneOf, listed, many, transitionAt}
+use Rattle.format.specs.Read.{Found, found, refused, after, oneOf, many, transitionAt}
 use Rattle.tables.specs.Record.{columns, rowAt}
-use Rattle.tables.specs.Steps.{Filled, Kept, Long}
+use Rattle.tables.specs.Steps.{Filled, Kept, Long, Ending, endingAt, EndingRead, RowRead}
 use Rattle.tables.specs.declared.Step.{Step}
 use Rattle.tables.specs.declared.Step.the-variants.{Next, Refused}
+use Rattle.tables.proofs.After.{after-after}
 use Rattle.tables.proofs.Bounds.{oneOf-below}
 
 -- as many are found as were asked for
@@ -33,7 +34,7 @@ many-counted item (suc k) at = go (item at) (λ n next. one-more k n (many item 
     go (found n next) h = h n next
     go (refused refusal) h = tt
 
-pub many-length : (item : ℕ → Found ℕ) (k at : ℕ) {ns : List ℕ} {end : ℕ} → many item k at ≡ found ns end → length ns ≡ k
+many-length : (item : ℕ → Found ℕ) (k at : ℕ) {ns : List ℕ} {end : ℕ} → many item k at ≡ found ns end → length ns ≡ k
 many-length item k at e = subst (Counted k) e (many-counted item k at)
 
 -- a filled array whose step went on: the numbers found
@@ -69,27 +70,18 @@ module _ (s ranks : List ℕ) (symbols states at : ℕ) (fits : symbols ≤ leng
     no-children refusal e = rw (length-take-le symbols ranks fits, symbol-found, rank-is, e)
 
     module _ (children : List ℕ) (at₂ : ℕ) (children-found : many (oneOf s states) rank at₁ ≡ found children at₂) where
-      pub no-target : (refusal : Refusal) → oneOf s states at₂ ≡ refused refusal → transitionAt s (take symbols ranks) states at ≡ refused refusal
+      transition-ends : transitionAt s (take symbols ranks) states at
+          ≡ after (endingAt s states at₂) (λ e next. found (record { symbol = σ; children = children; target = e .target; code = e .code }) next)
       unfolding transitionAt
-      no-target refusal e = rw (length-take-le symbols ranks fits, symbol-found, rank-is, children-found, e)
-
-      module _ (target at₃ : ℕ) (target-found : oneOf s states at₂ ≡ found target at₃) where
-        pub no-code : (refusal : Refusal) → listed s at₃ ≡ refused refusal → transitionAt s (take symbols ranks) states at ≡ refused refusal
-        unfolding transitionAt
-        no-code refusal e = rw (length-take-le symbols ranks fits, symbol-found, rank-is, children-found, target-found, e)
-
-        pub transition-found : (code next : ℕ) → listed s at₃ ≡ found code next
-            → transitionAt s (take symbols ranks) states at ≡ found (record { symbol = σ; children = children; target = target; code = code }) next
-        unfolding transitionAt
-        transition-found code next e = rw (length-take-le symbols ranks fits, symbol-found, rank-is, children-found, target-found, e)
+      transition-ends = rw (length-take-le symbols ranks fits, symbol-found, rank-is, children-found) (simp after-after)
 
 -- the row of the columns after its stores
 module _ (ranks symbol children stored target code : List ℕ) (j σ q w : ℕ) where
-  pub row-is : (kids : List ℕ) → j < length symbol → j < length target → j < length code → take (getD ranks σ 0) (drop (j * 4) stored) ≡ kids
+  row-is : (kids : List ℕ) → j < length symbol → j < length target → j < length code → take (getD ranks σ 0) (drop (j * 4) stored) ≡ kids
       → rowAt (columns ranks (set symbol j σ) stored (set target j q) (set code j w)) j ≡ record { symbol = σ; children = kids; target = q; code = w }
   row-is kids h k l e = rw (getD-set-same symbol j σ 0 h, getD-set-same target j q 0 k, getD-set-same code j w 0 l, e)
 
-  pub row-kept : take (j * 4) stored ≡ take (j * 4) children
+  row-kept : take (j * 4) stored ≡ take (j * 4) children
       → Kept j (columns ranks symbol children target code) (columns ranks (set symbol j σ) stored (set target j q) (set code j w))
   row-kept e =
       record {
@@ -100,7 +92,7 @@ module _ (ranks symbol children stored target code : List ℕ) (j σ q w : ℕ) 
         code = take-set-le j code j w (omega arith);
       }
 
-  pub row-long : length stored ≡ length children → Long (columns ranks symbol children target code)
+  row-long : length stored ≡ length children → Long (columns ranks symbol children target code)
       → Long (columns ranks (set symbol j σ) stored (set target j q) (set code j w))
   row-long e long =
       record {
@@ -110,6 +102,31 @@ module _ (ranks symbol children stored target code : List ℕ) (j σ q w : ℕ) 
         target = length-set target j q ∙ long .target;
         code = length-set code j w ∙ long .code;
       }
+
+-- the whole row, once its symbol and children are stored and its target and code are read
+module _ (s ranks symbol children stored targets codes : List ℕ) (symbols states at σ at₁ rank j : ℕ) (next : Cursor)
+    (fits : symbols ≤ length ranks) (symbol-found : oneOf s symbols at ≡ found σ at₁) (is-rank : rank ≡ getD ranks σ 0) (known : σ < 128)
+    (went : Went (many (oneOf s states) rank at₁) (j * 4) children stored next) (inside : j < 4000) (long : Long (columns ranks symbol children targets codes)) where
+  kids : take (getD ranks σ 0) (drop (j * 4) stored) ≡ went .numbers
+  kids = ap (λ (k : ℕ). take k (drop (j * 4) stored)) (sym (many-length (oneOf s states) rank at₁ (went .seen) ∙ is-rank)) ∙ went .stand
+
+  pub row-read : (target code : List ℕ) (step : Step) → EndingRead (endingAt s states (next .at)) j targets target codes code step
+      → RowRead (transitionAt s (take symbols ranks) states at) j (columns ranks symbol children targets codes) (columns ranks (set symbol j σ) stored target code) step
+  row-read target code step = go (endingAt s states (next .at)) refl
+    where
+      go : (x : Found Ending) → endingAt s states (next .at) ≡ x → EndingRead x j targets target codes code step
+          → RowRead (transitionAt s (take symbols ranks) states at) j (columns ranks symbol children targets codes) (columns ranks (set symbol j σ) stored target code) step
+      go (found e end) h r =
+          rw (transition-ends s ranks symbols states at fits σ at₁ rank symbol-found is-rank (went .numbers) (next .at) (went .seen), h, r .1, r .2) (
+            r .0,
+            row-is ranks symbol children stored targets codes j σ (e .target) (e .code) (went .numbers)
+                (omega (arith, inside, long .symbol)) (omega (arith, inside, long .target)) (omega (arith, inside, long .code)) kids,
+            rw (getD-set-same symbol j σ 0 (omega (arith, inside, long .symbol))) known,
+            row-kept ranks symbol children stored targets codes j σ (e .target) (e .code) (went .kept),
+            row-long ranks symbol children stored targets codes j σ (e .target) (e .code) (went .long) long,
+          )
+      go (refused refusal) h r =
+          rw (transition-ends s ranks symbols states at fits σ at₁ rank symbol-found is-rank (went .numbers) (next .at) (went .seen), h) r
 
 -- the numbers found are the first so many of the array
 pub went-taken : (item : ℕ → Found ℕ) (k at : ℕ) (before array : List ℕ) (next : Cursor) → Went (many item k at) 0 before array next → many item k at ≡ found (take k array) (next .at)

@@ -16,9 +16,10 @@ use Rattle.model.specs.Table.{Transition, key, lower}
 use Rattle.format.specs.Read.{Found, found, refused, after, transitionAt, transitionsAt}
 use Rattle.tables.specs.Record.{Columns, rowAt, rowsFrom, keyBefore}
 use Rattle.tables.specs.Rows.{part-of-front}
-use Rattle.tables.specs.Steps.{Small, Kept, Long, RowRead, RowsRead}
+use Rattle.tables.specs.Steps.{Small, Kept, Long, RowRead, aboveAt, RowsRead}
 use Rattle.tables.specs.declared.Step.{Step}
 use Rattle.tables.specs.declared.Step.the-variants.{Next, Refused}
+use Rattle.tables.proofs.After.{after-after, after-provided}
 use Rattle.tables.proofs.Filling.{prefixed, prefixed-none, prefixed-prefixed}
 
 -- rows of the columns
@@ -79,25 +80,37 @@ pub row-refused : (x : Found Transition) (j : ℕ) (before columns : Columns) (s
 row-refused (found t end) j before columns step refusal r e = absurd (let z : _≡_ {A = ℕ} 0 1 = cc (r .0, e) in omega arith)
 row-refused (refused other) j before columns step refusal r e = let same : other ≡ refusal = cc (r, e) in ap refused same
 
+-- a row that was read is tested against the one before
+module _ (s ranks : List ℕ) (states at j : ℕ) (before columns : Columns) (next : Cursor) (went : RowWent (transitionAt s ranks states at) j before columns next) (small : Small (before .ranks)) where
+  pub row-above : lower (keyBelow columns j) (key (rowAt columns j)) ≡ true → RowRead (aboveAt s ranks states (keyBelow before j) at) j before columns (Next next)
+  row-above high =
+      let high′ : lower (keyBelow before j) (key (rowAt columns j)) ≡ true = rw (key-kept before columns j (went .kept) small) at high in
+      rw (went .seen, high′) (refl, refl, went .known, went .kept, went .long)
+
+  pub row-not-above : lower (keyBelow columns j) (key (rowAt columns j)) ≡ false → RowRead (aboveAt s ranks states (keyBelow before j) at) j before columns (Refused (NotAbove at))
+  row-not-above low =
+      let low′ : lower (keyBelow before j) (key (rowAt columns j)) ≡ false = rw (key-kept before columns j (went .kept) small) at low in
+      rw (went .seen, low′) refl
+
 module _ (s ranks : List ℕ) (states : ℕ) where
   behind-one : (t : Transition) (r : Found (List Transition)) → after r (λ ts end. found (t ∷ ts) end) ≡ prefixed (t ∷ []) r
   behind-one t (found ts end) = refl
   behind-one t (refused refusal) = refl
 
-  transitions-found : (k at next : ℕ) (before : List ℕ) (t : Transition) → transitionAt s ranks states at ≡ found t next → lower before (key t) ≡ true
+  -- the transitions from one on, by the one that is above the last
+  transitions-open : (k at : ℕ) (before : List ℕ)
+      → transitionsAt s ranks states (suc k) before at
+      ≡ after (aboveAt s ranks states before at) (λ t next. after (transitionsAt s ranks states k (key t) next) (λ ts end. found (t ∷ ts) end))
+  unfolding transitionsAt
+  transitions-open k at before = simp (after-after, after-provided)
+
+  transitions-found : (k at next : ℕ) (before : List ℕ) (t : Transition) → aboveAt s ranks states before at ≡ found t next
       → transitionsAt s ranks states (suc k) before at ≡ prefixed (t ∷ []) (transitionsAt s ranks states k (key t) next)
-  unfolding transitionsAt
-  transitions-found k at next before t e above = rw (e, above) (behind-one t (transitionsAt s ranks states k (key t) next))
+  transitions-found k at next before t e = transitions-open k at before ∙ rw e (behind-one t (transitionsAt s ranks states k (key t) next))
 
-  transitions-refused : (k at : ℕ) (before : List ℕ) (refusal : Refusal) → transitionAt s ranks states at ≡ refused refusal
+  transitions-refused : (k at : ℕ) (before : List ℕ) (refusal : Refusal) → aboveAt s ranks states before at ≡ refused refusal
       → transitionsAt s ranks states (suc k) before at ≡ refused refusal
-  unfolding transitionsAt
-  transitions-refused k at before refusal e = rw e
-
-  transitions-not-above : (k at next : ℕ) (before : List ℕ) (t : Transition) → transitionAt s ranks states at ≡ found t next → lower before (key t) ≡ false
-      → transitionsAt s ranks states (suc k) before at ≡ refused (NotAbove at)
-  unfolding transitionsAt
-  transitions-not-above k at next before t e above = rw (e, above)
+  transitions-refused k at before refusal e = transitions-open k at before ∙ rw e
 
   transitions-none : (at : ℕ) (before : List ℕ) → transitionsAt s ranks states 0 before at ≡ found [] at
   unfolding transitionsAt
@@ -119,41 +132,32 @@ module _ (s ranks : List ℕ) (states count start : ℕ) where
     one-less : count - j ≡ suc (count - (j + 1))
     one-less = omega arith
 
-    pub rowing-refused : (refusal : Refusal) → transitionAt s ranks states at ≡ refused refusal
+    pub rowing-refused : (refusal : Refusal) → aboveAt s ranks states (keyBelow before j) at ≡ refused refusal
         → RowsRead (transitionsAt s ranks states count [] start) count columns (Refused refusal)
     rowing-refused refusal e =
         let whole : refused refusal ≡ transitionsAt s ranks states count [] start =
         rw (one-less, transitions-refused s ranks states (count - (j + 1)) at (keyBelow before j) refusal e) at (so-far .rest) in
         subst (λ (r : Found (List Transition)). RowsRead r count columns (Refused refusal)) whole refl
 
-    module _ (next : ℕ) (seen : transitionAt s ranks states at ≡ found (rowAt columns j) next) (kept : Kept j before columns) (small : Small (before .ranks)) where
-      pub rowing-not-above : lower (keyBelow columns j) (key (rowAt columns j)) ≡ false
-          → RowsRead (transitionsAt s ranks states count [] start) count columns (Refused (NotAbove at))
-      rowing-not-above low =
-          let low′ : lower (keyBelow before j) (key (rowAt columns j)) ≡ false = rw (key-kept before columns j kept small) at low in
-          let whole : refused (NotAbove at) ≡ transitionsAt s ranks states count [] start =
-          rw (one-less, transitions-not-above s ranks states (count - (j + 1)) at next (keyBelow before j) (rowAt columns j) seen low′) at (so-far .rest) in
-          subst (λ (r : Found (List Transition)). RowsRead r count columns (Refused (NotAbove at))) whole refl
-
-      pub rowing-goes-on : lower (keyBelow columns j) (key (rowAt columns j)) ≡ true → Long columns → Rowing s ranks states count start columns (j + 1) next
-      rowing-goes-on high long =
-          let high′ : lower (keyBelow before j) (key (rowAt columns j)) ≡ true = rw (key-kept before columns j kept small) at high in
-          let rows : rowsFrom columns 0 (j + 1) ≡ rowsFrom before 0 j ++ (rowAt columns j ∷ []) =
-          rw (add-one j, rows-snoc columns 0 j, zero-add j, rows-kept before columns j kept small) in
-          let below : keyBelow columns (j + 1) ≡ key (rowAt columns j) = rw (add-one j) in
-          record {
-            some = omega arith;
-            long = long;
-            rest =
-                rw (
-                  rows,
-                  below,
-                  ← prefixed-prefixed (rowsFrom before 0 j) (rowAt columns j ∷ []) (transitionsAt s ranks states (count - (j + 1)) (key (rowAt columns j)) next),
-                  ← transitions-found s ranks states (count - (j + 1)) at next (keyBelow before j) (rowAt columns j) seen high′,
-                  ← one-less,
-                )
-                (so-far .rest);
-          }
+    pub rowing-goes-on : (next : Cursor) → RowWent (aboveAt s ranks states (keyBelow before j) at) j before columns next → Small (before .ranks)
+        → Rowing s ranks states count start columns (j + 1) (next .at)
+    rowing-goes-on next went small =
+        let rows : rowsFrom columns 0 (j + 1) ≡ rowsFrom before 0 j ++ (rowAt columns j ∷ []) =
+        rw (add-one j, rows-snoc columns 0 j, zero-add j, rows-kept before columns j (went .kept) small) in
+        let below : keyBelow columns (j + 1) ≡ key (rowAt columns j) = rw (add-one j) in
+        record {
+          some = omega arith;
+          long = went .long;
+          rest =
+              rw (
+                rows,
+                below,
+                ← prefixed-prefixed (rowsFrom before 0 j) (rowAt columns j ∷ []) (transitionsAt s ranks states (count - (j + 1)) (key (rowAt columns j)) (next .at)),
+                ← transitions-found s ranks states (count - (j + 1)) at (next .at) (keyBelow before j) (rowAt columns j) (went .seen),
+                ← one-less,
+              )
+              (so-far .rest);
+        }
 
   pub rowing-ends : (columns : Columns) (j at : ℕ) → Rowing s ranks states count start columns j at → count ≤ j
       → RowsRead (transitionsAt s ranks states count [] start) count columns (Next (record { at = at }))

@@ -2,15 +2,19 @@
 use Prim.Native.Nat.{ℕ, _≤_, _<_, _*_}
 use mathlib.Core.Path.{_≡_}
 use mathlib.Core.List.{List}
-use lib.ListN.{length, getD, take, drop}
-use Rattle.format.specs.Read.{Found, found, refused, within, tableRead}
-use Rattle.model.specs.Table.{Table, Transition}
+use lib.ListN.{length, getD, take, drop, set}
+use Rattle.answers.specs.declared.Refusal.the-variants.{NotAbove}
+use Rattle.numbers.specs.declared.NumberRead.{NumberRead}
+use Rattle.numbers.specs.declared.NumberRead.the-variants as number
+use Rattle.format.specs.Read.{Found, found, refused, after, provided, any, within, oneOf, listed, many, transitionAt, tableRead}
+use Rattle.model.specs.Table.{Table, Transition, key, lower}
 use Rattle.tables.specs.Record.{Columns, rowAt, rowsFrom, tableIn, Holds}
 use Rattle.tables.specs.declared.Header.{Header}
 use Rattle.tables.specs.declared.HeaderRead.{HeaderRead}
 use Rattle.tables.specs.declared.HeaderRead.the-variants as header
 use Rattle.tables.specs.declared.BodyRead.{BodyRead}
 use Rattle.tables.specs.declared.BodyRead.the-variants as body
+use Rattle.tables.specs.declared.Outcome.{Outcome}
 use Rattle.tables.specs.declared.Reading.{Reading}
 use Rattle.answers.specs.declared.Answer.the-variants as answer
 use Rattle.tables.specs.declared.StateRead.{StateRead}
@@ -55,6 +59,26 @@ RowRead (found t end) j before columns step =
     (step ≡ Next (record { at = end })) × (rowAt columns j ≡ t) × (getD (columns .symbol) j 0 < 128) × Kept j before columns × Long columns
 RowRead (refused refusal) j before columns step = step ≡ Refused refusal
 
+-- what stands behind the children of a transition: its target and its code
+pub record Ending : Type 0 where
+  pub target : ℕ
+  pub code : ℕ
+
+abbrev pub endingAt : List ℕ → ℕ → ℕ → Found Ending
+endingAt s states at =
+    after (oneOf s states at) (λ target next. after (listed s next) (λ code end. found (record { target = target; code = code }) end))
+
+-- the target and the code found are those of transition j, and the others are as they were; or the refusal is answered
+abbrev pub EndingRead : Found Ending → ℕ → List ℕ → List ℕ → List ℕ → List ℕ → Step → Type 0
+EndingRead (found e end) j targets target codes code step =
+    (step ≡ Next (record { at = end })) × (target ≡ set targets j (e .target)) × (code ≡ set codes j (e .code))
+EndingRead (refused refusal) j targets target codes code step = step ≡ Refused refusal
+
+-- a transition that is above the one before, whose key is given
+abbrev pub aboveAt : List ℕ → List ℕ → ℕ → List ℕ → ℕ → Found Transition
+aboveAt s ranks states before at =
+    after (transitionAt s ranks states at) (λ t next. provided (lower before (key t)) (NotAbove at) (found t next))
+
 -- the transitions found are the first so many of the columns; or the refusal is answered
 abbrev pub RowsRead : Found (List Transition) → ℕ → Columns → Step → Type 0
 RowsRead (found ts end) count columns step = (step ≡ Next (record { at = end })) × (rowsFrom columns 0 count ≡ ts)
@@ -72,6 +96,20 @@ abbrev pub HeaderIs : List ℕ → HeaderRead → Type 0
 HeaderIs s (header.Read h) = HeaderFound s h
 HeaderIs s (header.Refused refusal) = tableRead s ≡ refused refusal
 
+-- the ranks and the final codes are in the arrays, and the number of transitions stands behind them
+pub record FrontFound (s : List ℕ) (h : Header) (ranks finals : List ℕ) (count next : ℕ) : Type 0 where
+  pub fourth : ℕ
+  pub fifth : ℕ
+  pub ranks-found : many (within s 0 4) (h .symbols) (h .next .at) ≡ found (take (h .symbols) ranks) fourth
+  pub finals-found : many (any s) (h .states) fourth ≡ found (take (h .states) finals) fifth
+  pub count-found : within s 0 4000 fifth ≡ found count next
+  pub small : Small ranks
+  pub long : length ranks ≡ 128
+
+abbrev pub FrontIs : List ℕ → Header → List ℕ → List ℕ → NumberRead → Type 0
+FrontIs s h ranks finals (number.Number count next) = FrontFound s h ranks finals count (next .at)
+FrontIs s h ranks finals (number.Refused refusal) = tableRead s ≡ refused refusal
+
 -- the whole table is in the arrays
 pub record BodyFound (s : List ℕ) (h : Header) (finals : List ℕ) (columns : Columns) (count : ℕ) : Type 0 where
   pub end : ℕ
@@ -81,6 +119,12 @@ pub record BodyFound (s : List ℕ) (h : Header) (finals : List ℕ) (columns : 
 abbrev pub BodyIs : List ℕ → Header → List ℕ → Columns → BodyRead → Type 0
 BodyIs s h finals columns (body.Count count) = BodyFound s h finals columns count
 BodyIs s h finals columns (body.Refused refusal) = tableRead s ≡ refused refusal
+
+-- the outcome's numbers and the arrays are the table that the bytes are, or the refusal is answered
+abbrev pub OutcomeIs : Found Table → List ℕ → Columns → Outcome → Type 0
+OutcomeIs (found X end) finals columns o =
+    (o .answer ≡ answer.Done (X .states)) × (tableIn (o .arithmetic) (o .states) (o .symbols) (o .count) finals columns ≡ X) × (o .symbols ≡ length (X .ranks))
+OutcomeIs (refused refusal) finals columns o = o .answer ≡ answer.Refused refusal
 
 -- the reader's promise: the record is the table that the bytes are, or the refusal is the one that the definition gives
 abbrev pub ReadingIs : Found Table → Reading → Type 0

@@ -12,7 +12,7 @@ ghost use lib.ListN.{length, getD, take};
 ghost use Rattle.format.specs.Read.{any, asFound, within, oneOf, listed, many, transitionAt, transitionsAt, tableRead};
 ghost use Rattle.model.specs.Table.{lower};
 ghost use Rattle.tables.specs.Record.{columns, keyAt, keyBefore};
-ghost use Rattle.tables.specs.Steps.{Filled, Small, Long, RowRead, RowsRead, stateFound, HeaderFound, HeaderIs, BodyIs, ReadingIs};
+ghost use Rattle.tables.specs.Steps.{Filled, Small, Long, EndingRead, endingAt, RowRead, aboveAt, RowsRead, stateFound, HeaderFound, HeaderIs, FrontIs, BodyIs, OutcomeIs, ReadingIs};
 
 // A table in memory. Of each array the first places count: as many as there are symbols, states or transitions.
 pub struct TableRecord {
@@ -217,6 +217,33 @@ fn ascends<'a>(
     last < own
 }
 
+// The target and the code of transition j.
+fn read_target_and_code(
+    table: &[u8],
+    place: Cursor,
+    states: usize,
+    j: usize,
+    target: &mut [u8; 4000],
+    code: &mut [u32; 4000],
+) -> Step
+    requires { ⌜ (states ≤ 256) × (j < 4000) × (length (now target) ≡ 4000) × (length (now code) ≡ 4000) ⌝ }
+    ensures { λ r. ⌜ EndingRead (endingAt (now (table .entry)) states (place .at)) j (now (target .entry)) (now (target .exit)) (now (code .entry)) (now (code .exit)) r ⌝ }
+{
+    match read_state(table, place, states) {
+        StateRead::Read(q, next) => {
+            target[j] = q.0;
+            match listed_code(table, next) {
+                NumberRead::Number(n, behind) => {
+                    code[j] = n;
+                    Step::Next(behind)
+                }
+                NumberRead::Refused(refusal) => Step::Refused(refusal),
+            }
+        }
+        StateRead::Refused(refusal) => Step::Refused(refusal),
+    }
+}
+
 // Transition j: symbol, children, target, code.
 fn read_transition(
     table: &[u8],
@@ -235,45 +262,58 @@ fn read_transition(
         (columns (now (ranks .entry)) (now (symbol .entry)) (now (children .entry)) (now (target .entry)) (now (code .entry)))
         (columns (now (ranks .entry)) (now (symbol .exit)) (now (children .exit)) (now (target .exit)) (now (code .exit))) r ⌝ }
 {
-    let mut next = place;
-    let mut rank = 0;
-    match number_of(table, next, symbols) {
-        NumberRead::Number(n, behind) => {
+    match number_of(table, place, symbols) {
+        NumberRead::Number(n, next) => {
             symbol[j] = n as u8;
-            rank = wide(ranks[n as usize]);
-            next = behind;
+            let rank = wide(ranks[n as usize]);
+            match read_children(table, next, states, rank, j * 4, children) {
+                Step::Next(behind) => read_target_and_code(table, behind, states, j, target, code),
+                Step::Refused(refusal) => Step::Refused(refusal),
+            }
         }
-        NumberRead::Refused(refusal) => {
-            return Step::Refused(refusal);
-        }
+        NumberRead::Refused(refusal) => Step::Refused(refusal),
     }
-    match read_children(table, next, states, rank, j * 4, children) {
-        Step::Next(behind) => {
-            next = behind;
+}
+
+// Transition j, which is to be above the one before it.
+fn read_above(
+    table: &[u8],
+    place: Cursor,
+    states: usize,
+    symbols: usize,
+    j: usize,
+    ranks: &[u8; 128],
+    symbol: &mut [u8; 4000],
+    children: &mut [u8; 16000],
+    target: &mut [u8; 4000],
+    code: &mut [u32; 4000],
+) -> Step
+    requires { ⌜ (states ≤ 256) × (symbols ≤ 128) × (j < 4000) × Small (now ranks) × Long (columns (now ranks) (now symbol) (now children) (now target) (now code)) ⌝ }
+    ensures { λ r. ⌜ RowRead (aboveAt (now (table .entry)) (take symbols (now (ranks .entry))) states (keyBefore (now (ranks .entry)) (now (symbol .entry)) (now (children .entry)) (now (target .entry)) j) (place .at)) j
+        (columns (now (ranks .entry)) (now (symbol .entry)) (now (children .entry)) (now (target .entry)) (now (code .entry)))
+        (columns (now (ranks .entry)) (now (symbol .exit)) (now (children .exit)) (now (target .exit)) (now (code .exit))) r ⌝ }
+{
+    let first = place.at;
+    match read_transition(
+        table,
+        place,
+        states,
+        symbols,
+        j,
+        ranks,
+        symbol,
+        children,
+        target,
+        code,
+    ) {
+        Step::Next(next) => {
+            if !ascends(j, ranks, symbol, children, target) {
+                return Step::Refused(Refusal::NotAbove(first));
+            }
+            Step::Next(next)
         }
-        Step::Refused(refusal) => {
-            return Step::Refused(refusal);
-        }
+        Step::Refused(refusal) => Step::Refused(refusal),
     }
-    match read_state(table, next, states) {
-        StateRead::Read(q, behind) => {
-            target[j] = q.0;
-            next = behind;
-        }
-        StateRead::Refused(refusal) => {
-            return Step::Refused(refusal);
-        }
-    }
-    match listed_code(table, next) {
-        NumberRead::Number(n, behind) => {
-            code[j] = n;
-            next = behind;
-        }
-        NumberRead::Refused(refusal) => {
-            return Step::Refused(refusal);
-        }
-    }
-    Step::Next(next)
 }
 
 // The transitions, each above the one before.
@@ -296,8 +336,7 @@ fn read_transitions(
     let mut next = place;
     let mut j = 0;
     while j < count {
-        let first = next.at;
-        match read_transition(
+        match read_above(
             table,
             next,
             states,
@@ -309,15 +348,8 @@ fn read_transitions(
             target,
             code,
         ) {
-            Step::Next(behind) => {
-                next = behind;
-            }
-            Step::Refused(refusal) => {
-                return Step::Refused(refusal);
-            }
-        }
-        if !ascends(j, ranks, symbol, children, target) {
-            return Step::Refused(Refusal::NotAbove(first));
+            Step::Next(behind) => next = behind,
+            Step::Refused(refusal) => return Step::Refused(refusal),
         }
         j += 1;
     }
@@ -378,6 +410,25 @@ pub enum BodyRead {
     Refused(Refusal),
 }
 
+// The rank of each symbol, the final code of each state, and the number of transitions.
+fn read_front(
+    table: &[u8],
+    header: Header,
+    ranks: &mut [u8; 128],
+    finals: &mut [u32; 256],
+) -> NumberRead
+    requires { ⌜ HeaderFound (now table) header × Small (now ranks) × (length (now ranks) ≡ 128) × (length (now finals) ≡ 256) ⌝ }
+    ensures { λ r. ⌜ FrontIs (now (table .entry)) header (now (ranks .exit)) (now (finals .exit)) r ⌝ }
+{
+    match read_ranks(table, header.next, header.symbols, ranks) {
+        Step::Next(next) => match read_finals(table, next, header.states, finals) {
+            Step::Next(behind) => number_within(table, behind, 0, 4000),
+            Step::Refused(refusal) => NumberRead::Refused(refusal),
+        },
+        Step::Refused(refusal) => NumberRead::Refused(refusal),
+    }
+}
+
 // What stands behind the header, into the arrays of a record.
 fn read_body(
     table: &[u8],
@@ -392,59 +443,83 @@ fn read_body(
     requires { ⌜ HeaderFound (now table) header × Small (now ranks) × (length (now finals) ≡ 256) × Long (columns (now ranks) (now symbol) (now children) (now target) (now code)) ⌝ }
     ensures { λ r. ⌜ BodyIs (now (table .entry)) header (now (finals .exit)) (columns (now (ranks .exit)) (now (symbol .exit)) (now (children .exit)) (now (target .exit)) (now (code .exit))) r ⌝ }
 {
-    let states = header.states;
-    let symbols = header.symbols;
-    let mut next = header.next;
-    let mut count = 0;
-    match read_ranks(table, next, symbols, ranks) {
-        Step::Next(behind) => {
-            next = behind;
+    match read_front(table, header, ranks, finals) {
+        NumberRead::Number(n, next) => {
+            let count = n as usize;
+            match read_transitions(
+                table,
+                next,
+                header.states,
+                header.symbols,
+                count,
+                ranks,
+                symbol,
+                children,
+                target,
+                code,
+            ) {
+                Step::Next(behind) => {
+                    if behind.at < table.len() {
+                        return BodyRead::Refused(Refusal::TableGoesOn(behind.at));
+                    }
+                    BodyRead::Count(count)
+                }
+                Step::Refused(refusal) => BodyRead::Refused(refusal),
+            }
         }
-        Step::Refused(refusal) => {
-            return BodyRead::Refused(refusal);
-        }
+        NumberRead::Refused(refusal) => BodyRead::Refused(refusal),
     }
-    match read_finals(table, next, states, finals) {
-        Step::Next(behind) => {
-            next = behind;
-        }
-        Step::Refused(refusal) => {
-            return BodyRead::Refused(refusal);
-        }
+}
+
+// The answer of the reader, and the numbers of the table that it read; they are 0 if it is refused.
+pub struct Outcome {
+    pub answer: Answer,
+    pub arithmetic: u32,
+    pub states: usize,
+    pub symbols: usize,
+    pub count: usize,
+}
+
+fn refused(refusal: Refusal) -> Outcome
+    ensures { λ r. ⌜ r .answer ≡ Answer.Refused refusal ⌝ }
+{
+    Outcome {
+        answer: Answer::Refused(refusal),
+        arithmetic: 0,
+        states: 0,
+        symbols: 0,
+        count: 0,
     }
-    match number_within(table, next, 0, 4000) {
-        NumberRead::Number(n, behind) => {
-            count = n as usize;
-            next = behind;
+}
+
+// A table, its ranks, final codes and transitions into the arrays of a record.
+fn fill(
+    table: &[u8],
+    ranks: &mut [u8; 128],
+    finals: &mut [u32; 256],
+    symbol: &mut [u8; 4000],
+    children: &mut [u8; 16000],
+    target: &mut [u8; 4000],
+    code: &mut [u32; 4000],
+) -> Outcome
+    requires { ⌜ Small (now ranks) × (length (now finals) ≡ 256) × Long (columns (now ranks) (now symbol) (now children) (now target) (now code)) ⌝ }
+    ensures { λ r. ⌜ OutcomeIs (tableRead (now (table .entry))) (now (finals .exit)) (columns (now (ranks .exit)) (now (symbol .exit)) (now (children .exit)) (now (target .exit)) (now (code .exit))) r ⌝ }
+{
+    match read_header(table) {
+        HeaderRead::Read(header) => {
+            match read_body(table, header, ranks, finals, symbol, children, target, code) {
+                BodyRead::Count(count) => Outcome {
+                    answer: Answer::Done(header.states),
+                    arithmetic: header.arithmetic,
+                    states: header.states,
+                    symbols: header.symbols,
+                    count,
+                },
+                BodyRead::Refused(refusal) => refused(refusal),
+            }
         }
-        NumberRead::Refused(refusal) => {
-            return BodyRead::Refused(refusal);
-        }
+        HeaderRead::Refused(refusal) => refused(refusal),
     }
-    match read_transitions(
-        table,
-        next,
-        states,
-        symbols,
-        count,
-        ranks,
-        symbol,
-        children,
-        target,
-        code,
-    ) {
-        Step::Next(behind) => {
-            next = behind;
-        }
-        Step::Refused(refusal) => {
-            return BodyRead::Refused(refusal);
-        }
-    }
-    let end = next.at;
-    if end < table.len() {
-        return BodyRead::Refused(Refusal::TableGoesOn(end));
-    }
-    BodyRead::Count(count)
 }
 
 // A table read from bytes: done with the number of states, or refused; the record counts only if it is done.
@@ -462,64 +537,29 @@ pub fn read(table: &[u8]) -> Reading
     let mut children = [0u8; 16000];
     let mut target = [0u8; 4000];
     let mut code = [0u32; 4000];
-    match read_header(table) {
-        HeaderRead::Read(header) => {
-            match read_body(
-                table,
-                header,
-                &mut ranks,
-                &mut finals,
-                &mut symbol,
-                &mut children,
-                &mut target,
-                &mut code,
-            ) {
-                BodyRead::Count(count) => Reading {
-                    answer: Answer::Done(header.states),
-                    table: TableRecord {
-                        arithmetic: header.arithmetic,
-                        states: header.states,
-                        symbols: header.symbols,
-                        count,
-                        ranks,
-                        finals,
-                        symbol,
-                        children,
-                        target,
-                        code,
-                    },
-                },
-                BodyRead::Refused(refusal) => Reading {
-                    answer: Answer::Refused(refusal),
-                    table: TableRecord {
-                        arithmetic: 0,
-                        states: 0,
-                        symbols: 0,
-                        count: 0,
-                        ranks,
-                        finals,
-                        symbol,
-                        children,
-                        target,
-                        code,
-                    },
-                },
-            }
-        }
-        HeaderRead::Refused(refusal) => Reading {
-            answer: Answer::Refused(refusal),
-            table: TableRecord {
-                arithmetic: 0,
-                states: 0,
-                symbols: 0,
-                count: 0,
-                ranks,
-                finals,
-                symbol,
-                children,
-                target,
-                code,
-            },
+    let outcome = fill(
+        table,
+        &mut ranks,
+        &mut finals,
+        &mut symbol,
+        &mut children,
+        &mut target,
+        &mut code,
+    );
+    let answer = outcome.answer;
+    Reading {
+        answer,
+        table: TableRecord {
+            arithmetic: outcome.arithmetic,
+            states: outcome.states,
+            symbols: outcome.symbols,
+            count: outcome.count,
+            ranks,
+            finals,
+            symbol,
+            children,
+            target,
+            code,
         },
     }
 }

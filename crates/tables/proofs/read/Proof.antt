@@ -1,61 +1,44 @@
--- `tables::read` meets its contract: the record is made of what the body's reader left in the arrays.
+-- `tables::read` meets its contract: the record is made of the arrays and of the numbers of the outcome.
 -- Assumes nothing.
-use mathlib.Core.Path.{refl, subst}
 use Prim.Native.Nat.{ℕ}
+use mathlib.Core.List.{List}
 use lib.ListN.{length-replicate}
-use borrow.Author.Needs.{needs}
-use Rattle.tables.specs.Steps.{HeaderIs, BodyIs}
+use Rattle.format.specs.Read.{Found, found, refused, tableRead}
+use Rattle.model.specs.Table.{Table}
+use Rattle.tables.specs.Record.{columns}
+use Rattle.tables.specs.Steps.{OutcomeIs, ReadingIs}
+use Rattle.tables.specs.declared.Outcome.{Outcome}
 use Rattle.tables.proofs.Blank.{blank-small, blank-long}
 use Rattle.tables.proofs.read.Statement.{statement}
 use Rattle.tables.proofs.read.Tie as tie
 
-read-header-requires : tie.Need-read-header-requires
-read-header-requires c κs =
-    search needs
+outcome-reading : (x : Found Table) (ranks finals symbol children target code : List ℕ) (o : Outcome) → OutcomeIs x finals (columns ranks symbol children target code) o →
+    ReadingIs x (record {
+      answer = o .answer;
+      table =
+          record {
+            arithmetic = o .arithmetic;
+            states = o .states;
+            symbols = o .symbols;
+            count = o .count;
+            ranks = ranks;
+            finals = finals;
+            symbol = symbol;
+            children = children;
+            target = target;
+            code = code;
+          };
+    })
+outcome-reading (found X end) ranks finals symbol children target code o is = (is .0, record { table = is .1; symbols = is .2 })
+outcome-reading (refused refusal) ranks finals symbol children target code o is = is
 
-enum-known-header : tie.Need-enum-known-header
-enum-known-header c =
-    search needs
-
-read-body-requires : tie.Need-read-body-requires
-read-body-requires c κs =
-    (subst (HeaderIs (c .before .before .before .before .before .before .before .before .before .before .before .args .table .now)) (c .before .before .before .before .before .before .before .header .given .1) (c .before .before .before .before .before .before .before .before .before .read-header .ensures), blank-small, length-replicate {A = ℕ} 256 0, blank-long)
-
-enum-known-count : tie.Need-enum-known-count
-enum-known-count c =
-    search needs
-
-enum-known-refusal : tie.Need-enum-known-refusal
-enum-known-refusal c =
-    search needs
-
-enum-known-refusal-2 : tie.Need-enum-known-refusal-2
-enum-known-refusal-2 c =
-    search needs
+fill-requires : tie.Need-fill-requires
+fill-requires c κs =
+    (blank-small, length-replicate {A = ℕ} 256 0, blank-long)
 
 returns : tie.Need-returns
 returns c =
-    let f = subst (BodyIs (c .before .before .before .before .before .before .before .before .before .before .before .before .before .before .before .args .table .now) _ _ _) (c .before .count .given .1) (c .before .before .before .read-body .ensures) in
-    rw (f .table) (refl, record { table = refl; symbols = f .symbols })
-
-returns-2 : tie.Need-returns-2
-returns-2 c =
-    rw (subst (BodyIs (c .before .before .before .before .before .before .before .before .before .before .before .before .before .before .before .args .table .now) _ _ _) (c .before .refusal .given .1) (c .before .before .before .read-body .ensures)) refl
-
-returns-3 : tie.Need-returns-3
-returns-3 c =
-    rw (subst (HeaderIs (c .before .before .before .before .before .args .table .now)) (c .before .refusal2 .given .1) (c .before .before .before .read-header .ensures)) refl
+    outcome-reading (tableRead (c .before .before .before .before .before .before .before .before .args .table .now)) _ _ _ _ _ _ (c .fill .result) (c .fill .ensures)
 
 pub read-spec : {M : Type 1} → statement M
-read-spec =
-    tie.close
-    (tie.spec
-    read-header-requires
-    enum-known-header
-    read-body-requires
-    enum-known-count
-    enum-known-refusal
-    enum-known-refusal-2
-    returns
-    returns-2
-    returns-3)
+read-spec = tie.close (tie.spec fill-requires returns)
