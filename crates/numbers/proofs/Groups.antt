@@ -10,26 +10,26 @@ use lib.ListN.{length, getD}
 use Rattle.answers.specs.declared.Refusal.the-variants.{TableEnds, BadNumber}
 use Rattle.numbers.specs.declared.NumberRead.{NumberRead}
 use Rattle.numbers.specs.declared.NumberRead.the-variants.{Number, Refused}
-use Rattle.numbers.specs.Read.{below, number, moreFrom, more-ends, more-padded, more-last, more-more, fifth-large, fifth-last}
+use Rattle.numbers.specs.Read.{withLowest, number, moreFrom, more-ends, more-padded, more-last, more-more, fifth-large, fifth-last}
 
 -- a number whose lowest groups gave `value` and whose others were read: a one of these counts `unit`
 abbrev joined : ℕ → ℕ → NumberRead → NumberRead
 joined value unit (Number n next) = Number (value + unit * n) next
 joined value unit (Refused refusal) = Refused refusal
 
-joined-first : (low : ℕ) (r : NumberRead) → joined low 128 r ≡ below low r
+joined-first : (low : ℕ) (r : NumberRead) → joined low 128 r ≡ withLowest low r
 joined-first low (Number n next) = refl
 joined-first low (Refused refusal) = refl
 
 -- one group more
-joined-below : (value unit group : ℕ) (r : NumberRead) → joined value unit (below group r) ≡ joined (value + unit * group) (unit * 128) r
+joined-below : (value unit group : ℕ) (r : NumberRead) → joined value unit (withLowest group r) ≡ joined (value + unit * group) (unit * 128) r
 joined-below value unit group (Number n next) =
     ap (λ (m : ℕ). Number m next) (rw (mul-add unit group (128 * n), ← mul-assoc unit 128 n) (omega arith))
 joined-below value unit group (Refused refusal) = refl
 
 -- what the definition reads of a number whose first byte gave `low`
 abbrev pub whole : List ℕ → ℕ → ℕ → NumberRead
-whole s first low = below low (moreFrom 3 s first (first + 1))
+whole s first low = withLowest low (moreFrom 3 s first (first + 1))
 
 -- `left` bytes may come before the fifth, whose unit is 2^28
 pub record Groups (s : List ℕ) (first low value unit at : ℕ) : Type 0 where

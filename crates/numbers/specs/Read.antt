@@ -1,6 +1,6 @@
 -- What stands at a place of a table: a number, or why there is none (document 01, "Bytes" and codes 1 and 2).
 use Prim.Native.Nat.{ℕ, zero, suc, _+_, _*_, _-_, _≤_, _<_}
-use mathlib.Core.Bool.{Bool, true, false}
+use mathlib.Core.Bool.{cond}
 use mathlib.Core.List.{List}
 use lib.ListN.{length, getD}
 use lib.Dec.{leb, ltb, eqb}
@@ -11,37 +11,33 @@ use Rattle.answers.specs.declared.Refusal.the-variants.{TableEnds, BadNumber}
 use Rattle.numbers.specs.declared.NumberRead.{NumberRead}
 use Rattle.numbers.specs.declared.NumberRead.the-variants.{Number, Refused}
 
-abbrev pub choose : Bool → NumberRead → NumberRead → NumberRead
-choose true a b = a
-choose false a b = b
-
 abbrev pub number : ℕ → ℕ → NumberRead
 number n next = Number n (record { at = next })
 
 -- a number whose lowest group is `low` and whose others were read
-abbrev pub below : ℕ → NumberRead → NumberRead
-below low (Number n next) = Number (low + 128 * n) next
-below low (Refused refusal) = Refused refusal
+abbrev pub withLowest : ℕ → NumberRead → NumberRead
+withLowest low (Number n next) = Number (low + 128 * n) next
+withLowest low (Refused refusal) = Refused refusal
 
 -- the bytes after the first: g more than this one may follow; the fifth byte is below 16, the last is not 0
 unfoldable pub moreFrom : ℕ → List ℕ → ℕ → ℕ → NumberRead
 moreFrom zero s first at =
-    choose (leb (length s) at) (Refused (TableEnds (length s)))
-    (choose (eqb (getD s at 0) 0) (Refused (BadNumber first))
-    (choose (leb 16 (getD s at 0)) (Refused (BadNumber first))
+    cond (leb (length s) at) (Refused (TableEnds (length s)))
+    (cond (eqb (getD s at 0) 0) (Refused (BadNumber first))
+    (cond (leb 16 (getD s at 0)) (Refused (BadNumber first))
     (number (getD s at 0) (at + 1))))
 moreFrom (suc g) s first at =
-    choose (leb (length s) at) (Refused (TableEnds (length s)))
-    (choose (eqb (getD s at 0) 0) (Refused (BadNumber first))
-    (choose (ltb (getD s at 0) 128) (number (getD s at 0) (at + 1))
-    (below (getD s at 0 - 128) (moreFrom g s first (at + 1)))))
+    cond (leb (length s) at) (Refused (TableEnds (length s)))
+    (cond (eqb (getD s at 0) 0) (Refused (BadNumber first))
+    (cond (ltb (getD s at 0) 128) (number (getD s at 0) (at + 1))
+    (withLowest (getD s at 0 - 128) (moreFrom g s first (at + 1)))))
 
 -- the number at a place of a table, with the next place
 unfoldable pub numberAt : List ℕ → ℕ → NumberRead
 numberAt s at =
-    choose (leb (length s) at) (Refused (TableEnds (length s)))
-    (choose (ltb (getD s at 0) 128) (number (getD s at 0) (at + 1))
-    (below (getD s at 0 - 128) (moreFrom 3 s at (at + 1))))
+    cond (leb (length s) at) (Refused (TableEnds (length s)))
+    (cond (ltb (getD s at 0) 128) (number (getD s at 0) (at + 1))
+    (withLowest (getD s at 0 - 128) (moreFrom 3 s at (at + 1))))
 
 -- The laws of the definition, case by case. `byte` is what stands at the place, `next` is the place behind it.
 
@@ -64,7 +60,7 @@ module _ (s : List ℕ) (first at next byte : ℕ) (inside : at < length s) (sta
   unfolding moreFrom
   more-last g h k = simp (lt-leb (length s) at inside, ← stands, ne-eqb byte 0 h, lt-ltb byte 128 k, behind)
 
-  pub more-more : (g : ℕ) → 128 ≤ byte → moreFrom (suc g) s first at ≡ below (byte - 128) (moreFrom g s first next)
+  pub more-more : (g : ℕ) → 128 ≤ byte → moreFrom (suc g) s first at ≡ withLowest (byte - 128) (moreFrom g s first next)
   unfolding moreFrom
   more-more g k = let h : byte ≡ 0 → ⊥ = λ e. omega arith in simp (lt-leb (length s) at inside, ← stands, ne-eqb byte 0 h, le-ltb byte 128 k, behind)
 
@@ -80,6 +76,6 @@ module _ (s : List ℕ) (first at next byte : ℕ) (inside : at < length s) (sta
   unfolding numberAt
   number-short k = simp (lt-leb (length s) at inside, ← stands, lt-ltb byte 128 k, behind)
 
-  pub number-long : 128 ≤ byte → numberAt s at ≡ below (byte - 128) (moreFrom 3 s at next)
+  pub number-long : 128 ≤ byte → numberAt s at ≡ withLowest (byte - 128) (moreFrom 3 s at next)
   unfolding numberAt
   number-long k = simp (lt-leb (length s) at inside, ← stands, le-ltb byte 128 k, behind)

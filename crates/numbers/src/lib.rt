@@ -4,7 +4,7 @@ use answers::Refusal;
 ghost use mathlib.Core.Path.{_≡_};
 ghost use Prim.Native.Nat.{_+_, _<_};
 ghost use lib.ListN.{length};
-ghost use Rattle.numbers.specs.Read.{numberAt, below, moreFrom};
+ghost use Rattle.numbers.specs.Read.{numberAt, withLowest, moreFrom};
 
 // A place in a table.
 pub struct Cursor {
@@ -37,7 +37,7 @@ impl Cursor {
 // The rest of a number whose first byte, at `first`, gave `low` and says that more bytes follow.
 fn long_number(table: &[u8], first: usize, low: u32) -> NumberRead
     requires { ⌜ (low < 128) × (first < length (now table)) ⌝ }
-    ensures { λ r. ⌜ r ≡ below low (moreFrom 3 (now (table .entry)) first (first + 1)) ⌝ }
+    ensures { λ r. ⌜ r ≡ withLowest low (moreFrom 3 (now (table .entry)) first (first + 1)) ⌝ }
 {
     let mut value = low;
     // what a one counts in the group that is read next

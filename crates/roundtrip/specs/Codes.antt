@@ -1,7 +1,7 @@
 -- A table is refused with one of the numbers 1 to 7, and with no other (document 01, "Numbers that come back").
 use Prim.Native.Nat.{ℕ, zero, suc, _+_, _-_, _≤_}
 use mathlib.Core.Path.{_≡_, subst}
-use mathlib.Core.Bool.{Bool, true, false, _&&_}
+use mathlib.Core.Bool.{Bool, true, false, cond, _&&_}
 use mathlib.Core.List.{List, []}
 use native.Mathlib.Omega.{arith}
 use lib.ListN.{length, getD}
@@ -11,7 +11,7 @@ use Rattle.answers.specs.declared.Refusal.the-variants.{TableEnds, BadNumber, O
 use Rattle.answers.specs.Numbers.{codeOf}
 use Rattle.numbers.specs.declared.NumberRead.{NumberRead}
 use Rattle.numbers.specs.declared.NumberRead.the-variants.{Number, Refused}
-use Rattle.numbers.specs.Read.{choose, number, below, moreFrom, numberAt}
+use Rattle.numbers.specs.Read.{number, withLowest, moreFrom, numberAt}
 use Rattle.model.specs.Table.{key, lower}
 use Rattle.format.specs.Read.{Found, found, refused, after, provided, asFound, any, within, oneOf, listed, many, transitionAt, transitionsAt, tableRead}
 
@@ -29,11 +29,11 @@ abbrev ToldNumber : NumberRead → Type 0
 ToldNumber (Number n next) = Unit {0}
 ToldNumber (Refused refusal) = OfTable refusal
 
-choose-told : (b : Bool) (x y : NumberRead) → ToldNumber x → ToldNumber y → ToldNumber (choose b x y)
-choose-told true x y h k = h
-choose-told false x y h k = k
+cond-told : (b : Bool) (x y : NumberRead) → ToldNumber x → ToldNumber y → ToldNumber (cond b x y)
+cond-told true x y h k = h
+cond-told false x y h k = k
 
-below-told : (low : ℕ) (x : NumberRead) → ToldNumber x → ToldNumber (below low x)
+below-told : (low : ℕ) (x : NumberRead) → ToldNumber x → ToldNumber (withLowest low x)
 below-told low (Number n next) h = tt
 below-told low (Refused refusal) h = h
 
@@ -45,14 +45,14 @@ bad-told at = record { low = omega arith; high = omega arith }
 
 more-told : (g : ℕ) (s : List ℕ) (first at : ℕ) → ToldNumber (moreFrom g s first at)
 unfolding moreFrom
-more-told zero s first at = choose-told (leb (length s) at) _ _ (ends-told (length s)) (choose-told (eqb (getD s at 0) 0) _ _ (bad-told first) (choose-told (leb 16 (getD s at 0)) _ (number (getD s at 0) (at + 1)) (bad-told first) tt))
-more-told (suc g) s first at = choose-told (leb (length s) at) _ _ (ends-told (length s)) (choose-told (eqb (getD s at 0) 0) _ _ (bad-told first)
-    (choose-told (ltb (getD s at 0) 128) (number (getD s at 0) (at + 1)) _ tt (below-told (getD s at 0 - 128) (moreFrom g s first (at + 1)) (more-told g s first (at + 1)))))
+more-told zero s first at = cond-told (leb (length s) at) _ _ (ends-told (length s)) (cond-told (eqb (getD s at 0) 0) _ _ (bad-told first) (cond-told (leb 16 (getD s at 0)) _ (number (getD s at 0) (at + 1)) (bad-told first) tt))
+more-told (suc g) s first at = cond-told (leb (length s) at) _ _ (ends-told (length s)) (cond-told (eqb (getD s at 0) 0) _ _ (bad-told first)
+    (cond-told (ltb (getD s at 0) 128) (number (getD s at 0) (at + 1)) _ tt (below-told (getD s at 0 - 128) (moreFrom g s first (at + 1)) (more-told g s first (at + 1)))))
 
 number-told : (s : List ℕ) (at : ℕ) → ToldNumber (numberAt s at)
 unfolding numberAt
-number-told s at = choose-told (leb (length s) at) _ _ (ends-told (length s))
-    (choose-told (ltb (getD s at 0) 128) (number (getD s at 0) (at + 1)) _ tt (below-told (getD s at 0 - 128) (moreFrom 3 s at (at + 1)) (more-told 3 s at (at + 1))))
+number-told s at = cond-told (leb (length s) at) _ _ (ends-told (length s))
+    (cond-told (ltb (getD s at 0) 128) (number (getD s at 0) (at + 1)) _ tt (below-told (getD s at 0 - 128) (moreFrom 3 s at (at + 1)) (more-told 3 s at (at + 1))))
 
 after-told : {A B : Type 0} (x : Found A) (f : A → ℕ → Found B) → Told x → ((a : A) (next : ℕ) → Told (f a next)) → Told (after x f)
 after-told (found a next) f h k = k a next

@@ -15,7 +15,7 @@ use Rattle.numbers.specs.declared.Cursor.{Cursor}
 use Rattle.numbers.specs.declared.NumberRead.{NumberRead}
 use Rattle.numbers.specs.declared.NumberRead.the-variants.{Number, Refused}
 use Rattle.numbers.specs.Written.{groups, written}
-use Rattle.numbers.specs.Read.{number, below, moreFrom, numberAt, more-ends, number-ends, more-padded, more-last, more-more, fifth-large, fifth-last, number-short, number-long}
+use Rattle.numbers.specs.Read.{number, withLowest, moreFrom, numberAt, more-ends, number-ends, more-padded, more-last, more-more, fifth-large, fifth-last, number-short, number-long}
 
 groups-zero : (n : ℕ) → groups 0 n ≡ n ∷ []
 unfolding groups
@@ -51,7 +51,7 @@ stands-one : (s : List ℕ) (at byte : ℕ) → at < length s → byte ≡ getD 
 stands-one s at byte h e = stands-cons s at byte [] (at + 1) h e (record { there = refl; behind = omega arith; inside = omega arith })
 
 -- what a number with a lowest group was read from
-below-number : (low n p : ℕ) (r : NumberRead) → below low r ≡ number n p → (m : ℕ) × (r ≡ number m p) × (n ≡ low + 128 * m)
+below-number : (low n p : ℕ) (r : NumberRead) → withLowest low r ≡ number n p → (m : ℕ) × (r ≡ number m p) × (n ≡ low + 128 * m)
 below-number low n p (Number m next) e = (m, cc, cc)
 below-number low n p (Refused refusal) e = let z : _≡_ {A = ℕ} 0 1 = cc in absurd (omega arith)
 
@@ -138,9 +138,9 @@ first-byte s at byte bytes e =
 module _ (s : List ℕ) where
   -- a number of several bytes is read if its bytes after the first are
   more-read : (g first at n : ℕ) → 128 ≤ n → moreFrom g s first (at + 1) ≡ number (n / 128) (at + 1 + length (groups g (n / 128)))
-      → below (128 + n % 128 - 128) (moreFrom g s first (at + 1)) ≡ number n (at + length (groups (suc g) n))
+      → withLowest (128 + n % 128 - 128) (moreFrom g s first (at + 1)) ≡ number n (at + length (groups (suc g) n))
   more-read g first at n l e =
-      ap (below (128 + n % 128 - 128)) e
+      ap (withLowest (128 + n % 128 - 128)) e
       ∙ ap₂ number (omega arith) (simp (groups-more g n l) (omega arith))
 
   -- the bytes after the first

@@ -1,7 +1,7 @@
 -- How far a reading of a table reaches: no refusal's figure is above 65,416, and no answer depends on a byte behind the first 65,416.
 use Prim.Native.Nat.{ℕ, zero, suc, _+_, _*_, _-_, _≤_, _<_, _^_}
 use mathlib.Core.Path.{_≡_, refl, sym, ap, _∙_, subst}
-use mathlib.Core.Bool.{Bool, true, false, _&&_}
+use mathlib.Core.Bool.{Bool, true, false, cond, _&&_}
 use mathlib.Core.List.{List, [], _∷_}
 use native.Mathlib.Omega.{arith}
 use native.Mathlib.Decide.{decLt}
@@ -14,7 +14,7 @@ use Rattle.answers.specs.declared.Refusal.the-variants.{OutOfRange, NotInTable,
 use Rattle.answers.specs.Numbers.{figureOf}
 use Rattle.numbers.specs.declared.NumberRead.{NumberRead}
 use Rattle.numbers.specs.declared.NumberRead.the-variants.{Number, Refused}
-use Rattle.numbers.specs.Read.{choose, below, moreFrom, numberAt}
+use Rattle.numbers.specs.Read.{withLowest, moreFrom, numberAt}
 use Rattle.numbers.specs.Written.{written}
 use Rattle.model.specs.Each.{each-implies, each-getD}
 use Rattle.model.specs.Table.{Table, Transition, Each, key, lower}
@@ -32,11 +32,11 @@ abbrev Figured : ℕ → NumberRead → Type 0
 Figured limit (Number n next) = Unit {0}
 Figured limit (Refused refusal) = figureOf refusal ≤ limit
 
-figured-choice : (limit : ℕ) (test : Bool) (r r₁ : NumberRead) → (test ≡ true → Figured limit r) → Figured limit r₁ → Figured limit (choose test r r₁)
+figured-choice : (limit : ℕ) (test : Bool) (r r₁ : NumberRead) → (test ≡ true → Figured limit r) → Figured limit r₁ → Figured limit (cond test r r₁)
 figured-choice limit true r r₁ h h₁ = h refl
 figured-choice limit false r r₁ h h₁ = h₁
 
-figured-below : (limit low : ℕ) (r : NumberRead) → Figured limit r → Figured limit (below low r)
+figured-below : (limit low : ℕ) (r : NumberRead) → Figured limit r → Figured limit (withLowest low r)
 figured-below limit low (Number n next) h = tt
 figured-below limit low (Refused refusal) h = h
 

@@ -7,7 +7,8 @@ use crate::plain::Answer;
 pub const FILE: &str = "crates/collapse/specs/Wrong.antt";
 
 const LEMMAS: &str = include_str!("../../../crates/collapse/specs/Wrong.antt");
-const TABLES: [&str; 2] = [
+const TABLES: [&str; 3] = [
+    include_str!("../../../crates/format/specs/Examples.antt"),
     include_str!("../../../crates/collapse/specs/Examples.antt"),
     include_str!("../../../crates/collapse/specs/Shrinking.antt"),
 ];
