@@ -29,7 +29,7 @@ pub struct Weighing {
 }
 
 // Weighs a tree by a table. Done, the sheet holds at node × n + state the weight of the node's subtree at that state. It takes some
-// 200 KB of stack: the record and its copies, the transitions' numbers and the offsets.
+// 160 KB of stack: the record and its copies, the transitions' numbers and the offsets.
 pub fn weigh(table: &[u8], tree: &[u8], sheet: &mut [i64]) -> Weighing
     ensures { λ r. ⌜ Weighed (now (table .entry)) (now (tree .entry)) (now (sheet .entry)) r (now (sheet .exit)) ⌝ }
 {
