@@ -52,13 +52,13 @@ extern "C" {
 
 /* The arithmetics, and what the code of a weight, 0 to 4,294,967,295, means. */
 #define PERISTHOX_MODULAR 0         /* the code is the weight; sums and products modulo 2^32 */
-#define PERISTHOX_MAX_PLUS 1        /* sums, of which the greatest counts; 0 is "nothing"; 1, 2, 3, 4, .. are 0, -1, 1, -2, .. */
+#define PERISTHOX_MAX_PLUS 1        /* a sum is the greater of two, a product ordinary addition; 0 is "nothing"; 1, 2, 3, 4, .. are 0, -1, 1, -2, .. */
 
 /* The directions. A shrink's direction is its first side. */
 #define PERISTHOX_BACKWARD 0
 #define PERISTHOX_FORWARD 1
 
-/* The greatest sizes. */
+/* The greatest sizes. A table has at least one state and one symbol. */
 #define PERISTHOX_TABLE_MAX 65415   /* bytes of a table: room that is always enough to rewrite, collapse or shrink one */
 #define PERISTHOX_STATES_MAX 256    /* states: room that is always enough for blocks */
 #define PERISTHOX_SYMBOLS_MAX 128   /* symbols */
@@ -67,7 +67,7 @@ extern "C" {
 #define PERISTHOX_NODES_MAX 4096    /* nodes of a tree */
 #define PERISTHOX_SHEET_MAX 1048576 /* numbers of a sheet: PERISTHOX_NODES_MAX times PERISTHOX_STATES_MAX */
 #define PERISTHOX_WEIGHT_MAX INT64_C(8798240501759) /* PERISTHOX_MAX_PLUS: how far from 0 a weight that isn't nothing lies */
-#define PERISTHOX_STACK 458752      /* bytes of stack that are enough for every call (check and weigh: 262144) */
+#define PERISTHOX_STACK 458752      /* bytes of stack that are enough for every call (check: 131072, weigh: 262144) */
 
 /* The weight "nothing" in a sheet and as a tree's weight. It is below every number. */
 #define PERISTHOX_NOTHING INT64_MIN
