@@ -1,5 +1,5 @@
--- Programs that the promises rule out, each by its answer on a small table. (Others are must-fail edits.) Document 01's "Run only"
--- examples that are refused are here too, as readings.
+-- Programs that the promises rule out, each by its answer on a small table. (Others are must-fail edits. Document 01's "Run only"
+-- examples that are refused are readings, in format/specs/Examples.antt.)
 use Prim.Native.Nat.{ℕ, _≤_, _<_}
 use mathlib.Core.Path.{_≡_, refl, sym, ap, _∙_}
 use mathlib.Core.Bool.{Bool, true, false}
@@ -10,7 +10,7 @@ use borrow.Author.Tests.{le-leb}
 use Rattle.answers.specs.declared.Answer.{Answer}
 use Rattle.answers.specs.declared.Answer.the-variants.{Done, Refused}
 use Rattle.answers.specs.declared.Refusal.{Refusal}
-use Rattle.answers.specs.declared.Refusal.the-variants.{TableEnds, NotInTable, ZeroCode, NotAbove, TableGoesOn}
+use Rattle.answers.specs.declared.Refusal.the-variants.{TableEnds}
 use Rattle.numbers.specs.Written.{groups}
 use Rattle.numbers.specs.Read.{numberAt, moreFrom}
 use Rattle.model.specs.Table.{Table}
@@ -73,11 +73,6 @@ pub pick-refused : (picked bytesA [] ≡ RefusedSecond (TableEnds 0)) × (pickCo
 unfolding tableRead many transitionsAt transitionAt numberAt moreFrom
 pick-refused = (refl, refl)
 
--- one whose refusal touches a byte: a refused table's room is as it was
-pub refusal-untouched : (table before : List ℕ) (refusal : Refusal) (a : Answer) (room : List ℕ) → tableRead table ≡ refused refusal
-    → Rewrites table before a room → (a ≡ Refused refusal) × (room ≡ before)
-refusal-untouched table before refusal a room e p = (p .answer-is ∙ rw e, p .room-is ∙ rw e)
-
 -- one whose refusal, of whatever number, touches a byte
 pub rewrite-refusal : (table before : List ℕ) (refusal : Refusal) (room : List ℕ) → Rewrites table before (Refused refusal) room → room ≡ before
 rewrite-refusal table before refusal room p = go (tableRead table) (p .answer-is) (p .room-is)
@@ -89,29 +84,3 @@ rewrite-refusal table before refusal room p = go (tableRead table) (p .answer-is
     go : (x : Found Table) → Refused refusal ≡ rewrittenAnswer x before → room ≡ rewrittenRoom x before → room ≡ before
     go (found X end) e f = either X (fits (bytesOf X) before) e f
     go (refused r) e f = f
-
--- one that tests 6 before 5: the second transition is not above the first, and its code is 0
-pub five-before-six : checked (tableRead (0 ∷ 1 ∷ 1 ∷ 0 ∷ 0 ∷ 2 ∷ 0 ∷ 0 ∷ 1 ∷ 0 ∷ 0 ∷ 0 ∷ [])) ≡ Refused (ZeroCode 11)
-unfolding tableRead many transitionsAt transitionAt numberAt moreFrom
-five-before-six = refl
-
--- document 01's refused examples: no bytes; A with 03 at byte 17, 00 at 18, 00 at 13; one byte more
-pub no-bytes : checked (tableRead []) ≡ Refused (TableEnds 0)
-unfolding tableRead numberAt
-no-bytes = refl
-
-pub unknown-state : checked (tableRead (0 ∷ 3 ∷ 2 ∷ 0 ∷ 1 ∷ 0 ∷ 0 ∷ 1 ∷ 4 ∷ 0 ∷ 0 ∷ 3 ∷ 0 ∷ 1 ∷ 3 ∷ 1 ∷ 0 ∷ 3 ∷ 5 ∷ 1 ∷ 1 ∷ 2 ∷ 7 ∷ [])) ≡ Refused (NotInTable 17)
-unfolding tableRead many transitionsAt transitionAt numberAt moreFrom
-unknown-state = refl
-
-pub zero-code : checked (tableRead (0 ∷ 3 ∷ 2 ∷ 0 ∷ 1 ∷ 0 ∷ 0 ∷ 1 ∷ 4 ∷ 0 ∷ 0 ∷ 3 ∷ 0 ∷ 1 ∷ 3 ∷ 1 ∷ 0 ∷ 2 ∷ 0 ∷ 1 ∷ 1 ∷ 2 ∷ 7 ∷ [])) ≡ Refused (ZeroCode 18)
-unfolding tableRead many transitionsAt transitionAt numberAt moreFrom
-zero-code = refl
-
-pub not-above : checked (tableRead (0 ∷ 3 ∷ 2 ∷ 0 ∷ 1 ∷ 0 ∷ 0 ∷ 1 ∷ 4 ∷ 0 ∷ 0 ∷ 3 ∷ 0 ∷ 0 ∷ 3 ∷ 1 ∷ 0 ∷ 2 ∷ 5 ∷ 1 ∷ 1 ∷ 2 ∷ 7 ∷ [])) ≡ Refused (NotAbove 12)
-unfolding tableRead many transitionsAt transitionAt numberAt moreFrom
-not-above = refl
-
-pub one-byte-more : checked (tableRead (bytesA ++ 0 ∷ [])) ≡ Refused (TableGoesOn 23)
-unfolding tableRead many transitionsAt transitionAt numberAt moreFrom
-one-byte-more = refl

@@ -1,6 +1,36 @@
--- Document 01's table A, as bytes.
+-- Document 01's table A, as bytes, and its "Run only" examples that are refused, as readings.
 use Prim.Native.Nat.{ℕ}
-use mathlib.Core.List.{List, [], _∷_}
+use mathlib.Core.Path.{_≡_, refl}
+use mathlib.Core.List.{List, [], _∷_, _++_}
+use Rattle.answers.specs.declared.Refusal.the-variants.{TableEnds, NotInTable, ZeroCode, NotAbove, TableGoesOn}
+use Rattle.numbers.specs.Read.{numberAt, moreFrom}
+use Rattle.format.specs.Read.{refused, many, transitionAt, transitionsAt, tableRead}
 
 abbrev pub bytesA : List ℕ
 bytesA = 0 ∷ 3 ∷ 2 ∷ 0 ∷ 1 ∷ 0 ∷ 0 ∷ 1 ∷ 4 ∷ 0 ∷ 0 ∷ 3 ∷ 0 ∷ 1 ∷ 3 ∷ 1 ∷ 0 ∷ 2 ∷ 5 ∷ 1 ∷ 1 ∷ 2 ∷ 7 ∷ []
+
+-- 5 comes before 6: the second transition is not above the first, and its code is 0
+pub five-before-six : tableRead (0 ∷ 1 ∷ 1 ∷ 0 ∷ 0 ∷ 2 ∷ 0 ∷ 0 ∷ 1 ∷ 0 ∷ 0 ∷ 0 ∷ []) ≡ refused (ZeroCode 11)
+unfolding tableRead many transitionsAt transitionAt numberAt moreFrom
+five-before-six = refl
+
+-- document 01's refused examples: no bytes; A with 03 at byte 17, 00 at 18, 00 at 13; one byte more
+pub no-bytes : tableRead [] ≡ refused (TableEnds 0)
+unfolding tableRead numberAt
+no-bytes = refl
+
+pub unknown-state : tableRead (0 ∷ 3 ∷ 2 ∷ 0 ∷ 1 ∷ 0 ∷ 0 ∷ 1 ∷ 4 ∷ 0 ∷ 0 ∷ 3 ∷ 0 ∷ 1 ∷ 3 ∷ 1 ∷ 0 ∷ 3 ∷ 5 ∷ 1 ∷ 1 ∷ 2 ∷ 7 ∷ []) ≡ refused (NotInTable 17)
+unfolding tableRead many transitionsAt transitionAt numberAt moreFrom
+unknown-state = refl
+
+pub zero-code : tableRead (0 ∷ 3 ∷ 2 ∷ 0 ∷ 1 ∷ 0 ∷ 0 ∷ 1 ∷ 4 ∷ 0 ∷ 0 ∷ 3 ∷ 0 ∷ 1 ∷ 3 ∷ 1 ∷ 0 ∷ 2 ∷ 0 ∷ 1 ∷ 1 ∷ 2 ∷ 7 ∷ []) ≡ refused (ZeroCode 18)
+unfolding tableRead many transitionsAt transitionAt numberAt moreFrom
+zero-code = refl
+
+pub not-above : tableRead (0 ∷ 3 ∷ 2 ∷ 0 ∷ 1 ∷ 0 ∷ 0 ∷ 1 ∷ 4 ∷ 0 ∷ 0 ∷ 3 ∷ 0 ∷ 0 ∷ 3 ∷ 1 ∷ 0 ∷ 2 ∷ 5 ∷ 1 ∷ 1 ∷ 2 ∷ 7 ∷ []) ≡ refused (NotAbove 12)
+unfolding tableRead many transitionsAt transitionAt numberAt moreFrom
+not-above = refl
+
+pub one-byte-more : tableRead (bytesA ++ 0 ∷ []) ≡ refused (TableGoesOn 23)
+unfolding tableRead many transitionsAt transitionAt numberAt moreFrom
+one-byte-more = refl

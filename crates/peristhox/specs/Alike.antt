@@ -17,8 +17,8 @@ use Rattle.trees.specs.declared.TreeRead.the-variants as trees
 use Rattle.trees.specs.Read.{treeRead}
 use Rattle.trees.specs.Finished.{treeOf}
 use Rattle.roundtrip.specs.Tables.{table-complete}
-use Rattle.weigh.specs.Asked.{refused, weighed, withTable, withTree, answered}
-use Rattle.weigh.specs.Promise.{Weighed, weighed-asked}
+use Rattle.weigh.specs.Asked.{refused, weighed, withTable, withTree, answered, weighed-asked}
+use Rattle.weigh.specs.Promise.{Weighed}
 use Rattle.weigh.specs.declared.Weighing.{Weighing}
 use Rattle.collapse.specs.Sequences.{Collapsings, weights-kept}
 

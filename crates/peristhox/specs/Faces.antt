@@ -10,7 +10,8 @@ use Rattle.answers.specs.Numbers.{packed, code-some}
 use Rattle.answers.specs.declared.Answer.{Answer}
 use Rattle.answers.specs.declared.Answer.the-variants.{Done, Refused}
 use Rattle.weigh.specs.declared.Weighing.{Weighing}
-use Rattle.weigh.specs.Promise.{Weighed, weigh-decided}
+use Rattle.weigh.specs.Promise.{Weighed}
+use Rattle.weigh.specs.Asked.{weigh-decided}
 use Rattle.collapse.specs.Promises.{Blocks, Collapses, ShrinksTo, blocks-decided, collapse-decided, shrink-decided}
 use Rattle.collapse.specs.Sequences.{Collapsing, done-collapsing}
 use Rattle.collapse.specs.declared.Counted.{Counted}

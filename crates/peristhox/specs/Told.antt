@@ -9,8 +9,7 @@ use Rattle.answers.specs.Numbers.{answerCode, answerFigure, packed}
 use Rattle.answers.specs.declared.Answer.{Answer}
 use Rattle.format.specs.Read.{tableRead}
 use Rattle.calls.specs.Answers.{checked, rewrittenAnswer}
-use Rattle.weigh.specs.Asked.{asked, answered}
-use Rattle.weigh.specs.Promise.{weighed-asked}
+use Rattle.weigh.specs.Asked.{asked, answered, weighed-asked}
 use Rattle.weigh.specs.declared.Weighing.{Weighing}
 use Rattle.peristhox.specs.Faces.{WeighFace, BlocksFace, CollapseFace, ShrinkFace}
 use Rattle.peristhox.specs.Figures.{check-fits, rewrite-fits, weigh-fits}

@@ -24,8 +24,8 @@ use Rattle.trees.specs.Read.{treeRead}
 use Rattle.trees.specs.Finished.{treeOf}
 use Rattle.trees.specs.Written.{sound}
 use Rattle.weigh.specs.declared.Weighing.{Weighing}
-use Rattle.weigh.specs.Asked.{refused, weighed, withTable, withTree, answered}
-use Rattle.weigh.specs.Promise.{Weighed, weighed-asked}
+use Rattle.weigh.specs.Asked.{refused, weighed, withTable, withTree, answered, weighed-asked}
+use Rattle.weigh.specs.Promise.{Weighed}
 
 -- nothing, or near enough
 abbrev pub Near : ℤ → Type 0

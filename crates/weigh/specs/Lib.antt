@@ -1,6 +1,6 @@
 pub mod Far
-pub mod Asked
 pub mod Promise
+pub mod Asked
 pub mod Examples
 pub mod Numbers
 pub mod Index

@@ -1,7 +1,7 @@
 -- What weighing answers, and what it leaves in the sheet (document 01, "Numbers that come back").
 use Prim.Native.Nat.{ℕ, _*_}
-use mathlib.Core.Path.{_≡_, refl, sym, ap, _∙_, subst}
-use mathlib.Core.Bool.{Bool, true, false, cond}
+use mathlib.Core.Path.{_≡_}
+use mathlib.Core.Bool.{Bool, true, false}
 use mathlib.Core.List.{List, _++_}
 use lib.Dec.{leb}
 use lib.IntN.{ℤ, pos}
@@ -18,10 +18,8 @@ use Rattle.format.specs.Read.{Found, found, refused, tableRead}
 use Rattle.trees.specs.declared.TreeRead.{TreeRead}
 use Rattle.trees.specs.declared.TreeRead.the-variants as trees
 use Rattle.trees.specs.Read.{treeRead}
-use Rattle.trees.specs.Finished.{treeOf}
-use Rattle.trees.specs.Written.{Written, sound, read-back}
+use Rattle.trees.specs.Written.{Written}
 use Rattle.weigh.specs.declared.Weighing.{Weighing}
-use Rattle.weigh.specs.Asked.{weighed, refused as refusing, withTree, withTable, asked, answered, filled}
 
 -- a refused weighing has weight 0 and says that there is none
 abbrev pub refusedBy : Refusal → Weighing
@@ -60,50 +58,3 @@ WeighedBy (refused refusal) bytes before weighing after = (weighing ≡ refusedB
 -- the promise: from the bytes and the sheet before, the answer and the sheet after
 abbrev pub Weighed : List ℕ → List ℕ → List ℤ → Weighing → List ℤ → Type 0
 Weighed table bytes before weighing after = WeighedBy (tableRead table) bytes before weighing after
-
--- It says what the steps answer: the tree is the one that they go by.
-module _ (bytes : List ℕ) (before : List ℤ) (w : Weighing) (after : List ℤ) where
-  room-asked : (b : Bool) (X : Table) (t : Tree) (nodes : ℕ) → (w ≡ weightOf b X t nodes) × (after ≡ sheetOf b X t nodes before)
-      → (w ≡ answered (cond b (weighed X t nodes) (refusing (RoomTooShort (nodes * X .states))))) × (after ≡ filled (cond b (weighed X t nodes) (refusing (RoomTooShort (nodes * X .states)))) before)
-  room-asked true X t nodes p = p
-  room-asked false X t nodes p = p
-
-  asked-room : (b : Bool) (X : Table) (t : Tree) (nodes : ℕ)
-      → (w ≡ answered (cond b (weighed X t nodes) (refusing (RoomTooShort (nodes * X .states))))) × (after ≡ filled (cond b (weighed X t nodes) (refusing (RoomTooShort (nodes * X .states)))) before)
-      → (w ≡ weightOf b X t nodes) × (after ≡ sheetOf b X t nodes before)
-  asked-room true X t nodes p = p
-  asked-room false X t nodes p = p
-
-  tree-asked : (X : Table) (r : TreeRead) → WeighedTree X bytes r before w after → (w ≡ answered (withTree X bytes (length before) r)) × (after ≡ filled (withTree X bytes (length before) r) before)
-  tree-asked X (trees.Nodes nodes) p =
-      let same : p .tree ≡ treeOf (X .ranks) bytes = sym (read-back (X .ranks) (p .tree) (p .written .over)) ∙ ap (treeOf (X .ranks)) (p .written .bytes-are) in
-      room-asked (enough X nodes before) X (treeOf (X .ranks) bytes) nodes (subst (λ (t : Tree). (w ≡ weightOf (enough X nodes before) X t nodes) × (after ≡ sheetOf (enough X nodes before) X t nodes before)) same (p .answer-is, p .sheet-is))
-  tree-asked X (trees.Refused refusal) p = p
-
-  asked-tree : (X : Table) (r : TreeRead) → treeRead (X .ranks) bytes ≡ r → (w ≡ answered (withTree X bytes (length before) r)) × (after ≡ filled (withTree X bytes (length before) r) before) → WeighedTree X bytes r before w after
-  asked-tree X (trees.Nodes nodes) e p =
-      let q = asked-room (enough X nodes before) X (treeOf (X .ranks) bytes) nodes p in
-      record { tree = treeOf (X .ranks) bytes; written = sound (X .ranks) bytes nodes e; answer-is = q .0; sheet-is = q .1 }
-  asked-tree X (trees.Refused refusal) e p = p
-
-  pub weighed-asked : (table : List ℕ) → Weighed table bytes before w after → (w ≡ answered (asked table bytes (length before))) × (after ≡ filled (asked table bytes (length before)) before)
-  weighed-asked table = go (tableRead table)
-    where
-      go : (x : Found Table) → WeighedBy x bytes before w after → (w ≡ answered (withTable bytes (length before) x)) × (after ≡ filled (withTable bytes (length before) x) before)
-      go (found X end) p = tree-asked X (treeRead (X .ranks) bytes) p
-      go (refused refusal) p = p
-
-  pub asked-weighed : (table : List ℕ) → (w ≡ answered (asked table bytes (length before))) × (after ≡ filled (asked table bytes (length before)) before) → Weighed table bytes before w after
-  asked-weighed table = go (tableRead table)
-    where
-      go : (x : Found Table) → (w ≡ answered (withTable bytes (length before) x)) × (after ≡ filled (withTable bytes (length before) x) before) → WeighedBy x bytes before w after
-      go (found X end) p = asked-tree X (treeRead (X .ranks) bytes) refl p
-      go (refused refusal) p = p
-
--- any two answers and sheets that the promise allows are equal
-pub weigh-decided : (table bytes : List ℕ) (before : List ℤ) (v w : Weighing) (after later : List ℤ)
-    → Weighed table bytes before v after → Weighed table bytes before w later → (v ≡ w) × (after ≡ later)
-weigh-decided table bytes before v w after later p q =
-    let a = weighed-asked bytes before v after table p in
-    let b = weighed-asked bytes before w later table q in
-    (a .0 ∙ sym (b .0), a .1 ∙ sym (b .1))

@@ -10,8 +10,8 @@ use Rattle.answers.specs.declared.Refusal.{Refusal}
 use Rattle.answers.specs.declared.Answer.the-variants.{Refused}
 use Rattle.weigh.specs.declared.Weighing.{Weighing}
 use Rattle.format.specs.Examples.{bytesA}
-use Rattle.weigh.specs.Asked.{Asked, refused, weighed, asked, answered, filled}
-use Rattle.weigh.specs.Promise.{Weighed, weighed-asked}
+use Rattle.weigh.specs.Asked.{Asked, refused, weighed, asked, answered, filled, weighed-asked}
+use Rattle.weigh.specs.Promise.{Weighed}
 use Rattle.weigh.specs.Examples.{weighings}
 
 -- a sheet lent full of nines

@@ -7,7 +7,7 @@ use mir.Facts.{toZ-ofZ}
 use mir.Syntax.{w64}
 use mir.Val.{SFits}
 use lib.IntN.{ℤ}
-use Rattle.weigh.specs.Promise.{weighed-asked}
+use Rattle.weigh.specs.Asked.{weighed-asked}
 use Rattle.weigh.specs.declared.Weighing.{Weighing}
 use Rattle.peristhox.specs.Figures.{weigh-fits}
 use borrow.Author.Needs.{needs}

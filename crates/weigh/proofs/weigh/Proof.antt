@@ -4,7 +4,7 @@ use mathlib.Core.Path.{refl}
 use native.Mathlib.Omega.{arith}
 use Rattle.format.specs.Read.{tableRead}
 use Rattle.roundtrip.specs.Tables.{table-sound}
-use Rattle.weigh.specs.Promise.{asked-weighed}
+use Rattle.weigh.specs.Asked.{asked-weighed}
 use Rattle.weigh.proofs.Cases.{ReadTable, table-read, table-refused}
 use borrow.Author.Needs.{needs}
 use Rattle.weigh.proofs.weigh.Statement.{statement}
