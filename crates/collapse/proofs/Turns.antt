@@ -1,17 +1,8 @@
 -- The turns of a shrink: whatever the shrink from here on gives, the shrink from the start gives.
-use Prim.Native.Nat.{ℕ, zero, suc, _-_, _≤_}
-use mathlib.Core.Path.{_≡_, refl}
-use native.Mathlib.Omega.{arith}
 use Rattle.model.specs.Table.{Table}
-use Rattle.theory.specs.Direction.{Direction, direction, other}
+use Rattle.theory.specs.Direction.{Direction, other}
 use Rattle.theory.specs.Collapse.{CollapsedByCoarsest}
 use Rattle.theory.specs.Shrink.{Shrinks, last, more, Ends}
-
--- the other side of a direction's number
-pub other-side : (d : ℕ) → d ≤ 1 → direction (1 - d) ≡ other (direction d)
-other-side zero h = refl
-other-side (suc zero) h = refl
-other-side (suc (suc d)) h = absurd (omega arith)
 
 -- what is shrunk from the table X in direction d is what is shrunk from the first table in the first direction
 abbrev pub Turn : Direction → Table → Direction → Table → Type 0

@@ -1,5 +1,5 @@
 -- The steps of a refinement are those of the theory: profiles, dependence, and the start.
-use Prim.Native.Nat.{ℕ, zero, suc, _+_, _-_, _*_, _/_, _%_, _≤_, _<_}
+use Prim.Native.Nat.{ℕ, zero, suc, _+_, _-_, _*_, _/_, _%_, _<_}
 use mathlib.Core.Bool.{true}
 use mathlib.Core.List.{List, [], _∷_, _++_, map}
 use mathlib.Core.Logic.{_↔_}
@@ -13,7 +13,7 @@ use Rattle.model.specs.Table.{Each, Proper}
 use Rattle.tables.specs.Record.{Columns, rowAt, tableOf, Holds}
 use Rattle.tables.specs.declared.TableRecord.{TableRecord}
 use Rattle.theory.specs.Arithmetic.{arithmetic, meaning, meaning-same}
-use Rattle.theory.specs.Direction.{Direction, backward, forward, direction, other}
+use Rattle.theory.specs.Direction.{Direction, backward, forward, other}
 use Rattle.model.specs.Each.{each-implies, each-map, each-append, each-places}
 use Rattle.theory.specs.Equality.{numbers}
 use Rattle.theory.specs.Profile.{Key, keyOf, packedSum, packed-profile, profile-packed, SameProfile, Independent}
@@ -155,9 +155,3 @@ module _ {t : TableRecord} (holds : Holds t (tableOf t)) (proper : Proper (table
         λ h. ap (meaning (t .arithmetic)) (fp ∙ h ∙ sym fq),
         λ e. meaning-same (t .arithmetic) (getD (t .finals) p 0) (getD (t .finals) q 0) (final-fits holds proper p lp) (final-fits holds proper q lq) (ap (meaning (t .arithmetic)) (sym fp) ∙ e ∙ ap (meaning (t .arithmetic)) fq),
       )
-
--- the number of the other side
-pub other-side : (side : ℕ) → side ≤ 1 → direction (1 - side) ≡ other (direction side)
-other-side zero h = refl
-other-side (suc zero) h = refl
-other-side (suc (suc side)) h = absurd (omega arith)

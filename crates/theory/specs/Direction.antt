@@ -2,7 +2,8 @@
 use mathlib.Core.Logic.{_≢_}
 use mathlib.Core.Path.{_≡_, refl, sym, ap, _∙_, subst}
 use mathlib.Core.List.{List, _∷_, _++_, map}
-use Prim.Native.Nat.{ℕ, zero, suc, _<_}
+use Prim.Native.Nat.{ℕ, zero, suc, _-_, _≤_, _<_}
+use native.Mathlib.Omega.{arith}
 use lib.Dec.{eqb}
 use lib.ListN.{length}
 use lib.Seq.{ext-getD}
@@ -33,6 +34,11 @@ side-forward (suc side) h = refl
 abbrev pub other : Direction → Direction
 other backward = forward
 other forward = backward
+
+pub other-side : (side : ℕ) → side ≤ 1 → direction (1 - side) ≡ other (direction side)
+other-side zero h = refl
+other-side (suc zero) h = refl
+other-side (suc (suc side)) h = absurd (omega arith)
 
 -- The codes of the table X, read in arithmetic a.
 module _ (a : ℕ) (X : Table) where

@@ -7,12 +7,12 @@ use lib.ListN.{length}
 use Rattle.model.specs.Table.{Table}
 use Rattle.tables.specs.Record.{tableOf}
 use Rattle.theory.specs.Blocks.{blockOf}
-use Rattle.theory.specs.Direction.{Direction, direction as sideOf}
+use Rattle.theory.specs.Direction.{Direction, direction as sideOf, other-side}
 use Rattle.theory.specs.Collapse.{CollapsedByCoarsest}
 use Rattle.theory.specs.CollapseProper.{collapsed-few}
 use Rattle.theory.specs.Shrink.{Shrinks}
 use Rattle.collapse.specs.Readable.{Readable}
-use Rattle.collapse.proofs.Turns.{other-side, Turn, turn-starts, turn-goes-on, turn-ends}
+use Rattle.collapse.proofs.Turns.{Turn, turn-starts, turn-goes-on, turn-ends}
 use borrow.Author.Needs.{needs}
 use Rattle.collapse.proofs.shrunk.Statement.{statement}
 use Rattle.collapse.proofs.shrunk.Tie as tie

@@ -1,9 +1,8 @@
 -- `refine::index_both_sides` meets its contract. Assumes nothing.
 use mathlib.Core.Path.{subst}
 use borrow.Author.Needs.{needs}
-use Rattle.theory.specs.Direction.{Direction}
+use Rattle.theory.specs.Direction.{Direction, other-side}
 use Rattle.uses.specs.Numbers.{usesOf, Indexed}
-use Rattle.refine.proofs.Refined.{other-side}
 use Rattle.refine.proofs.index_both_sides.Statement.{statement}
 use Rattle.refine.proofs.index_both_sides.Tie as tie
 
