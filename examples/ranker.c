@@ -1,6 +1,6 @@
 /*
  * A small ranker: it checks a grammar, shrinks it, weighs the readings of a sentence by the grammar and by the shrunk one, and names
- * the best reading. Every reading weighs the same by both.
+ * the best reading. Every reading weighs the same by both. Of what is refused it says why, in words.
  */
 #include <inttypes.h>
 #include <stdio.h>
@@ -37,12 +37,48 @@ static const struct reading readings[] = {
     {"noun of", 2, {OF, NOUN}}, /* not a whole tree */
 };
 
+/* What two other writers sent: the first pads its numbers, the second counts too high. */
+static const struct {
+    const char *from;
+    size_t length;
+    uint8_t bytes[8];
+} sent[] = {
+    {"a writer that pads", 6, {PERISTHOX_MAX_PLUS, 0x83, 0x00, 0x02, 0x00, 0x02}},
+    {"a writer that counts too high", 8, {PERISTHOX_MAX_PLUS, 0xff, 0xff, 0xff, 0xff, 0x10, 0x02, 0x00}},
+};
+
+/* Each code in words. */
+static const char *const reasons[] = {
+    [PERISTHOX_DONE] = "done",
+    [PERISTHOX_TABLE_ENDS] = "the table ends where a byte of a number is due",
+    [PERISTHOX_PADDED_NUMBER] = "a number has a needless last zero byte",
+    [PERISTHOX_OUT_OF_RANGE] = "a count, a rank or the arithmetic is outside its range",
+    [PERISTHOX_NOT_IN_TABLE] = "a transition's symbol or state isn't in the table",
+    [PERISTHOX_ZERO_CODE] = "a transition's code is 0",
+    [PERISTHOX_NOT_ABOVE] = "a transition isn't above the one before",
+    [PERISTHOX_TABLE_GOES_ON] = "bytes follow the last transition",
+    [PERISTHOX_TREE_ENDS] = "the tree ends while a node is due",
+    [PERISTHOX_UNKNOWN_SYMBOL] = "a node's symbol isn't in the table",
+    [PERISTHOX_TREE_GOES_ON] = "bytes follow a finished tree",
+    [PERISTHOX_TREE_TOO_LONG] = "a node is due and there is a byte at offset 4,096",
+    [PERISTHOX_ROOM_TOO_SHORT] = "the lent room is too short",
+    [PERISTHOX_NO_DIRECTION] = "the direction is above 1",
+    [PERISTHOX_LARGE_NUMBER] = "a number's fifth byte is 16 or more",
+};
+
+static const char *reason(uint32_t code)
+{
+    return code < sizeof reasons / sizeof reasons[0] && reasons[code] ? reasons[code] : "a code of a later library";
+}
+
 /* Whether the call is done; else it says why not. */
 static int done(const char *what, uint64_t answer)
 {
-    if (PERISTHOX_CODE(answer) == PERISTHOX_DONE)
+    uint32_t code = PERISTHOX_CODE(answer);
+
+    if (code == PERISTHOX_DONE)
         return 1;
-    printf("%s: refused %" PRIu32 " at %" PRIu32 "\n", what, PERISTHOX_CODE(answer), PERISTHOX_FIGURE(answer));
+    printf("%s: refused %" PRIu32 " at %" PRIu32 ", %s\n", what, code, PERISTHOX_FIGURE(answer), reason(code));
     return 0;
 }
 
@@ -93,7 +129,11 @@ int main(void)
 {
     static uint8_t shrunk[PERISTHOX_TABLE_MAX];
     uint64_t answer;
-    size_t length;
+    size_t length, i;
+
+    for (i = 0; i < sizeof sent / sizeof sent[0]; i++)
+        if (done(sent[i].from, peristhox_check(sent[i].bytes, sent[i].length)))
+            return 1;
 
     answer = peristhox_check(grammar, sizeof grammar);
     if (!done("grammar", answer))

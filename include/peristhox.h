@@ -4,8 +4,8 @@
  *
  * Each call gives back code times 2^32 plus figure: PERISTHOX_CODE and PERISTHOX_FIGURE take the two apart. Code 0 is "done".
  * Under any other code the call has changed no lent memory, and the code is the first that applies: 13 for the direction; then 1 to 7
- * for the table, byte by byte; then 8 to 11 for the tree, node by node; then 12 for the room. Nothing is kept between calls, nothing
- * is allocated, and a call may run in any thread.
+ * and 19 for the table, byte by byte; then 8 to 11 for the tree, node by node; then 12 for the room. Nothing is kept between calls,
+ * nothing is allocated, and a call may run in any thread.
  *
  * A piece of memory is lent as a pointer and a length. Pieces lent to one call must not overlap if one of them is written. A
  * pointer must not be NULL, also where its length is 0. Lent room behind what a call writes stays as it was.
@@ -37,7 +37,7 @@ extern "C" {
 /* The codes, and what the figure says. */
 #define PERISTHOX_DONE 0            /* done: see each call */
 #define PERISTHOX_TABLE_ENDS 1      /* a table ends where a byte of a number is due: the table's length */
-#define PERISTHOX_BAD_NUMBER 2      /* a fifth byte of 16 or more, or a needless last zero byte: the number's first byte */
+#define PERISTHOX_PADDED_NUMBER 2   /* a number has a needless last zero byte: the number's first byte */
 #define PERISTHOX_OUT_OF_RANGE 3    /* arithmetic, states, symbols, a rank or transitions outside the range: the number's first byte */
 #define PERISTHOX_NOT_IN_TABLE 4    /* a transition's symbol or state isn't in the table: the number's first byte */
 #define PERISTHOX_ZERO_CODE 5       /* a transition's code is 0: the number's first byte */
@@ -49,6 +49,7 @@ extern "C" {
 #define PERISTHOX_TREE_TOO_LONG 11  /* a node is due and there is a byte at offset 4,096: 4,096 */
 #define PERISTHOX_ROOM_TOO_SHORT 12 /* the lent room is too short: the room needed */
 #define PERISTHOX_NO_DIRECTION 13   /* the direction is above 1: 0 */
+#define PERISTHOX_LARGE_NUMBER 19   /* a number's fifth byte is 16 or more, also if that says that a sixth follows: the number's first byte */
 
 /* The arithmetics, and what the code of a weight, 0 to 4,294,967,295, means. */
 #define PERISTHOX_MODULAR 0         /* the code is the weight; sums and products modulo 2^32 */

@@ -1,42 +1,47 @@
--- Document 01's table "Numbers that come back": the code and the figure of each refusal, and of each answer.
+-- Document 01's table "Numbers that come back", with what document 02 adds to it: the code and the figure of each refusal, and of each
+-- answer.
 use Prim.Native.Nat.{ℕ, _+_, _*_, _^_, _<_, _≤_}
-use lib.Dec.{lit<, lit≤}
+use mathlib.Core.Bool.{Bool, true, false, _&&_}
+use lib.Dec.{T, ltb, ltb→lt}
 use Rattle.answers.specs.declared.Refusal.{Refusal}
-use Rattle.answers.specs.declared.Refusal.the-variants.{TableEnds, BadNumber, OutOfRange, NotInTable, ZeroCode, NotAbove, TableGoesOn, TreeEnds, UnknownSymbol, TreeGoesOn, TreeTooLong, RoomTooShort, NoDirection}
 use Rattle.answers.specs.declared.Answer.{Answer}
 use Rattle.answers.specs.declared.Answer.the-variants.{Done, Refused}
 
--- the table's column "Code"
-abbrev pub codeOf : Refusal → ℕ
-codeOf (TableEnds at) = 1
-codeOf (BadNumber at) = 2
-codeOf (OutOfRange at) = 3
-codeOf (NotInTable at) = 4
-codeOf (ZeroCode at) = 5
-codeOf (NotAbove at) = 6
-codeOf (TableGoesOn at) = 7
-codeOf (TreeEnds at) = 8
-codeOf (UnknownSymbol at) = 9
-codeOf (TreeGoesOn at) = 10
-codeOf TreeTooLong = 11
-codeOf (RoomTooShort needed) = 12
-codeOf NoDirection = 13
+-- a code is from 1 to 99: 0 is "done", and a second table's codes come back with 100 added
+abbrev pub isCode : ℕ → Bool
+isCode code = ltb 0 code && ltb code 100
 
--- the table's column "Figure": a place, the room needed, or the number that the table gives
+-- a line of the table: its columns "Code" and "Figure"
+pub record Line : Type 0 where
+  pub code : ℕ
+  pub figure : ℕ
+  pub in-range : T (isCode code)
+
+abbrev pub line : (code figure : ℕ) → T (isCode code) → Line
+line code figure in-range = record { code = code; figure = figure; in-range = in-range }
+
+-- the table, line by line; a figure is a place, the room needed, or the number that the table gives
+abbrev pub lineOf : Refusal → Line
+lineOf (Refusal.TableEnds at) = line 1 at tt
+lineOf (Refusal.PaddedNumber at) = line 2 at tt
+lineOf (Refusal.OutOfRange at) = line 3 at tt
+lineOf (Refusal.NotInTable at) = line 4 at tt
+lineOf (Refusal.ZeroCode at) = line 5 at tt
+lineOf (Refusal.NotAbove at) = line 6 at tt
+lineOf (Refusal.TableGoesOn at) = line 7 at tt
+lineOf (Refusal.TreeEnds at) = line 8 at tt
+lineOf (Refusal.UnknownSymbol at) = line 9 at tt
+lineOf (Refusal.TreeGoesOn at) = line 10 at tt
+lineOf Refusal.TreeTooLong = line 11 4096 tt
+lineOf (Refusal.RoomTooShort needed) = line 12 needed tt
+lineOf Refusal.NoDirection = line 13 0 tt
+lineOf (Refusal.LargeNumber at) = line 19 at tt
+
+abbrev pub codeOf : Refusal → ℕ
+codeOf refusal = lineOf refusal .code
+
 abbrev pub figureOf : Refusal → ℕ
-figureOf (TableEnds at) = at
-figureOf (BadNumber at) = at
-figureOf (OutOfRange at) = at
-figureOf (NotInTable at) = at
-figureOf (ZeroCode at) = at
-figureOf (NotAbove at) = at
-figureOf (TableGoesOn at) = at
-figureOf (TreeEnds at) = at
-figureOf (UnknownSymbol at) = at
-figureOf (TreeGoesOn at) = at
-figureOf TreeTooLong = 4096
-figureOf (RoomTooShort needed) = needed
-figureOf NoDirection = 0
+figureOf refusal = lineOf refusal .figure
 
 abbrev pub answerCode : Answer → ℕ
 answerCode (Done figure) = 0
@@ -50,34 +55,13 @@ answerFigure (Refused refusal) = figureOf refusal
 abbrev pub packed : Answer → ℕ
 packed answer = answerCode answer * 2 ^ 32 + answerFigure answer
 
--- every code fits in a byte
-pub code-small : (refusal : Refusal) → codeOf refusal < 256
-code-small (TableEnds at) = lit< tt
-code-small (BadNumber at) = lit< tt
-code-small (OutOfRange at) = lit< tt
-code-small (NotInTable at) = lit< tt
-code-small (ZeroCode at) = lit< tt
-code-small (NotAbove at) = lit< tt
-code-small (TableGoesOn at) = lit< tt
-code-small (TreeEnds at) = lit< tt
-code-small (UnknownSymbol at) = lit< tt
-code-small (TreeGoesOn at) = lit< tt
-code-small TreeTooLong = lit< tt
-code-small (RoomTooShort needed) = lit< tt
-code-small NoDirection = lit< tt
+both : (a b : Bool) → T (a && b) → T a × T b
+both true true h = (tt, tt)
 
 -- no refusal has the code 0
-pub code-some : (refusal : Refusal) → 1 ≤ codeOf refusal
-code-some (TableEnds at) = lit≤ tt
-code-some (BadNumber at) = lit≤ tt
-code-some (OutOfRange at) = lit≤ tt
-code-some (NotInTable at) = lit≤ tt
-code-some (ZeroCode at) = lit≤ tt
-code-some (NotAbove at) = lit≤ tt
-code-some (TableGoesOn at) = lit≤ tt
-code-some (TreeEnds at) = lit≤ tt
-code-some (UnknownSymbol at) = lit≤ tt
-code-some (TreeGoesOn at) = lit≤ tt
-code-some TreeTooLong = lit≤ tt
-code-some (RoomTooShort needed) = lit≤ tt
-code-some NoDirection = lit≤ tt
+pub code-some : (refusal : Refusal) → 0 < codeOf refusal
+code-some refusal = ltb→lt 0 (codeOf refusal) (both (ltb 0 (codeOf refusal)) (ltb (codeOf refusal) 100) (lineOf refusal .in-range) .0)
+
+-- nor one that a second table's may have
+pub code-small : (refusal : Refusal) → codeOf refusal < 100
+code-small refusal = ltb→lt (codeOf refusal) 100 (both (ltb 0 (codeOf refusal)) (ltb (codeOf refusal) 100) (lineOf refusal .in-range) .1)

@@ -1,15 +1,15 @@
-// What a call answers: done with a figure, or refused with one of the numbers of document 01 and its figure.
+// What a call answers: done with a figure, or refused with one of the numbers of documents 01 and 02 and its figure.
 
 ghost use mathlib.Core.Path.{_≡_};
 ghost use Prim.Native.Nat.{_+_, _*_, _<_, _^_};
 ghost use Rattle.answers.specs.Numbers.{codeOf, figureOf, answerFigure, packed};
 
-// Why an input is refused, one case for each line of 01's table, with its figure.
+// Why an input is refused, one case for each line of 01's table and each number of 02, with its figure.
 pub enum Refusal {
     // the table ends where a byte of a number is due
     TableEnds(usize),
-    // a fifth byte is 16 or more, or a last byte after the first is 0
-    BadNumber(usize),
+    // a number's last byte, after its first, is 0
+    PaddedNumber(usize),
     // arithmetic, number of states, of symbols or of transitions, or a rank, outside its range
     OutOfRange(usize),
     // a transition's symbol or state is not in the table
@@ -32,6 +32,8 @@ pub enum Refusal {
     RoomTooShort(usize),
     // the direction is above 1
     NoDirection,
+    // a number's fifth byte is 16 or more
+    LargeNumber(usize),
 }
 
 // The answer of a call that gives back a figure alone.
@@ -40,13 +42,13 @@ pub enum Answer {
     Refused(Refusal),
 }
 
-// 01's number for a refusal.
+// The number for a refusal.
 pub fn code(refusal: Refusal) -> u32
     ensures { λ r. ⌜ r ≡ codeOf refusal ⌝ }
 {
     match refusal {
         Refusal::TableEnds(_) => 1,
-        Refusal::BadNumber(_) => 2,
+        Refusal::PaddedNumber(_) => 2,
         Refusal::OutOfRange(_) => 3,
         Refusal::NotInTable(_) => 4,
         Refusal::ZeroCode(_) => 5,
@@ -58,6 +60,7 @@ pub fn code(refusal: Refusal) -> u32
         Refusal::TreeTooLong => 11,
         Refusal::RoomTooShort(_) => 12,
         Refusal::NoDirection => 13,
+        Refusal::LargeNumber(_) => 19,
     }
 }
 
@@ -67,7 +70,7 @@ pub fn figure(refusal: Refusal) -> usize
 {
     match refusal {
         Refusal::TableEnds(at) => at,
-        Refusal::BadNumber(at) => at,
+        Refusal::PaddedNumber(at) => at,
         Refusal::OutOfRange(at) => at,
         Refusal::NotInTable(at) => at,
         Refusal::ZeroCode(at) => at,
@@ -79,6 +82,7 @@ pub fn figure(refusal: Refusal) -> usize
         Refusal::TreeTooLong => 4096,
         Refusal::RoomTooShort(needed) => needed,
         Refusal::NoDirection => 0,
+        Refusal::LargeNumber(at) => at,
     }
 }
 

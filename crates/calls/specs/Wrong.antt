@@ -73,6 +73,11 @@ pub pick-refused : (picked bytesA [] ≡ RefusedSecond (TableEnds 0)) × (pickCo
 unfolding tableRead many transitionsAt transitionAt numberAt moreFrom
 pick-refused = (refl, refl)
 
+-- one that does not tell a padded number of the second table from one that is too large
+pub pick-broken : (pickCode (picked bytesA (128 ∷ 0 ∷ [])) ≡ 102) × (pickCode (picked bytesA (255 ∷ 255 ∷ 255 ∷ 255 ∷ 16 ∷ [])) ≡ 119)
+unfolding tableRead many transitionsAt transitionAt numberAt moreFrom
+pick-broken = (refl, refl)
+
 -- one whose refusal, of whatever number, touches a byte
 pub rewrite-refusal : (table before : List ℕ) (refusal : Refusal) (room : List ℕ) → Rewrites table before (Refused refusal) room → room ≡ before
 rewrite-refusal table before refusal room p = go (tableRead table) (p .answer-is) (p .room-is)

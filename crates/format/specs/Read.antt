@@ -1,5 +1,5 @@
 -- What reading a table finds: byte by byte, each number tested as it is read, the first refusal that applies
--- (document 01, "Bytes" and "Numbers that come back", codes 1 to 7).
+-- (document 01, "Bytes" and "Numbers that come back", codes 1 to 7; document 02, M-104, code 19).
 use Prim.Native.Nat.{ℕ, zero, suc}
 use mathlib.Core.Bool.{Bool, true, false, _&&_}
 use mathlib.Core.List.{List, [], _∷_}

@@ -64,3 +64,9 @@ each-places P (x ∷ xs) d h = (h 0 (omega arith), each-places P xs d (λ i l. h
 pub map-each : {A B : Type 0} (P : A → Type 0) (f g : A → B) → ((x : A) → P x → f x ≡ g x) → (xs : List A) → Each P xs → map f xs ≡ map g xs
 map-each P f g h [] m = refl
 map-each P f g h (x ∷ xs) m = ap₂ _∷_ (h x (m .0)) (map-each P f g h xs (m .1))
+
+-- an entry is a member
+pub member-at : {A : Type 0} (xs : List A) (i : ℕ) (d : A) → i < length xs → List·Memᴰ (getD xs i d) xs
+member-at [] i d l = absurd (omega arith)
+member-at (x ∷ xs) zero d l = List·Memᴰ·head refl
+member-at (x ∷ xs) (suc i) d l = List·Memᴰ·tail (member-at xs i d (omega arith))

@@ -7,7 +7,7 @@ use mathlib.Core.List.{List}
 use native.Mathlib.Omega.{arith}
 use native.Mathlib.Nat.{mul-add, mul-assoc, mul-le-mul, mul-le-mul-left, one-le-pow, pow-succ'}
 use lib.ListN.{length, getD}
-use Rattle.answers.specs.declared.Refusal.the-variants.{TableEnds, BadNumber}
+use Rattle.answers.specs.declared.Refusal.the-variants.{TableEnds, PaddedNumber, LargeNumber}
 use Rattle.numbers.specs.declared.NumberRead.{NumberRead}
 use Rattle.numbers.specs.declared.NumberRead.the-variants.{Number, Refused}
 use Rattle.numbers.specs.Read.{withLowest, number, moreFrom, more-ends, more-padded, more-last, more-more, fifth-large, fifth-last}
@@ -76,10 +76,10 @@ module _ (s : List ℕ) (first low : ℕ) where
         which
 
     module _ (byte : ℕ) (inside : at < length s) (stands : byte ≡ getD s at 0) where
-      pub byte-padded : byte ≡ 0 → Refused (BadNumber first) ≡ whole s first low
+      pub byte-padded : byte ≡ 0 → Refused (PaddedNumber first) ≡ whole s first low
       byte-padded h = ap (joined value unit) (sym (more-padded s first at (at + 1) byte inside stands refl (g .left) h)) ∙ g .rest
 
-      pub fifth-too-large : unit ≡ 268435456 → 16 ≤ byte → Refused (BadNumber first) ≡ whole s first low
+      pub fifth-too-large : unit ≡ 268435456 → 16 ≤ byte → Refused (LargeNumber first) ≡ whole s first low
       fifth-too-large full h =
           ⊎-elim
           (λ (f : Fifth). ap (joined value unit) (sym (fifth-large s first at (at + 1) byte inside stands refl h)) ∙ f .rest)

@@ -1,4 +1,4 @@
--- What stands at a place of a table: a number, or why there is none (document 01, "Bytes" and codes 1 and 2).
+-- What stands at a place of a table: a number, or why there is none (document 01, "Bytes", codes 1 and 2; document 02, M-104, code 19).
 use Prim.Native.Nat.{ℕ, zero, suc, _+_, _*_, _-_, _≤_, _<_}
 use mathlib.Core.Bool.{cond}
 use mathlib.Core.List.{List}
@@ -7,7 +7,7 @@ use lib.Dec.{leb, ltb, eqb}
 use borrow.Author.Tests.{le-leb, lt-leb, lt-ltb, le-ltb, eq-eqb, ne-eqb}
 use native.Mathlib.Omega.{arith}
 use mathlib.Core.Path.{_≡_}
-use Rattle.answers.specs.declared.Refusal.the-variants.{TableEnds, BadNumber}
+use Rattle.answers.specs.declared.Refusal.the-variants.{TableEnds, PaddedNumber, LargeNumber}
 use Rattle.numbers.specs.declared.NumberRead.{NumberRead}
 use Rattle.numbers.specs.declared.NumberRead.the-variants.{Number, Refused}
 
@@ -23,12 +23,12 @@ withLowest low (Refused refusal) = Refused refusal
 unfoldable pub moreFrom : ℕ → List ℕ → ℕ → ℕ → NumberRead
 moreFrom zero s first at =
     cond (leb (length s) at) (Refused (TableEnds (length s)))
-    (cond (eqb (getD s at 0) 0) (Refused (BadNumber first))
-    (cond (leb 16 (getD s at 0)) (Refused (BadNumber first))
+    (cond (eqb (getD s at 0) 0) (Refused (PaddedNumber first))
+    (cond (leb 16 (getD s at 0)) (Refused (LargeNumber first))
     (number (getD s at 0) (at + 1))))
 moreFrom (suc g) s first at =
     cond (leb (length s) at) (Refused (TableEnds (length s)))
-    (cond (eqb (getD s at 0) 0) (Refused (BadNumber first))
+    (cond (eqb (getD s at 0) 0) (Refused (PaddedNumber first))
     (cond (ltb (getD s at 0) 128) (number (getD s at 0) (at + 1))
     (withLowest (getD s at 0 - 128) (moreFrom g s first (at + 1)))))
 
@@ -51,7 +51,7 @@ unfolding numberAt
 number-ends s at h = simp (le-leb (length s) at h)
 
 module _ (s : List ℕ) (first at next byte : ℕ) (inside : at < length s) (stands : byte ≡ getD s at 0) (behind : next ≡ at + 1) where
-  pub more-padded : (g : ℕ) → byte ≡ 0 → moreFrom g s first at ≡ Refused (BadNumber first)
+  pub more-padded : (g : ℕ) → byte ≡ 0 → moreFrom g s first at ≡ Refused (PaddedNumber first)
   unfolding moreFrom
   more-padded zero h = simp (lt-leb (length s) at inside, ← stands, eq-eqb byte 0 h)
   more-padded (suc g) h = simp (lt-leb (length s) at inside, ← stands, eq-eqb byte 0 h)
@@ -64,7 +64,7 @@ module _ (s : List ℕ) (first at next byte : ℕ) (inside : at < length s) (sta
   unfolding moreFrom
   more-more g k = let h : byte ≡ 0 → ⊥ = λ e. omega arith in simp (lt-leb (length s) at inside, ← stands, ne-eqb byte 0 h, le-ltb byte 128 k, behind)
 
-  pub fifth-large : 16 ≤ byte → moreFrom 0 s first at ≡ Refused (BadNumber first)
+  pub fifth-large : 16 ≤ byte → moreFrom 0 s first at ≡ Refused (LargeNumber first)
   unfolding moreFrom
   fifth-large k = let h : byte ≡ 0 → ⊥ = λ e. omega arith in simp (lt-leb (length s) at inside, ← stands, ne-eqb byte 0 h, le-leb 16 byte k)
 

@@ -46,11 +46,11 @@ fn long_number(table: &[u8], first: usize, low: u32) -> NumberRead
     while at < table.len() {
         let byte = wide(table[at]);
         if byte == 0 {
-            return NumberRead::Refused(Refusal::BadNumber(first));
+            return NumberRead::Refused(Refusal::PaddedNumber(first));
         }
         // in the fifth byte only four bits are left of 32
         if unit == 268435456 && 16 <= byte {
-            return NumberRead::Refused(Refusal::BadNumber(first));
+            return NumberRead::Refused(Refusal::LargeNumber(first));
         }
         if byte < 128 {
             return NumberRead::Number(value + unit * byte, Cursor { at: at + 1 });

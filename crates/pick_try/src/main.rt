@@ -15,6 +15,9 @@ fn main() {
     let broken =
         b"\x00\x03\x02\x00\x01\x00\x00\x01\x04\x00\x00\x03\x00\x01\x03\x01\x00\x03\x05\x01\x01\x02\x07";
     let cut = b"\x00\x03\x02\x00\x01";
+    // A's first byte padded, and an arithmetic that is too large
+    let padded = b"\x80\x00\x03";
+    let large = b"\xff\xff\xff\xff\x10";
     show(a, collapsed);
     show(collapsed, a);
     show(a, other);
@@ -26,6 +29,10 @@ fn main() {
     show(broken, cut);
     show(a, cut);
     show(a, b"");
+    show(padded, large);
+    show(large, padded);
+    show(a, padded);
+    show(a, large);
 }
 
 fn show<'a>(first: &'a [u8], second: &'a [u8]) {

@@ -3,15 +3,14 @@
 use std::fmt;
 use std::str::FromStr;
 
-use second::answer;
-
-const CODES: usize = 14;
+use second::answer::{self, CODES};
 
 #[derive(Clone, Copy, Default)]
 pub struct Count {
     /// An input is a table, or a table with a tree. Each is tried in several calls.
     pub inputs: usize,
     calls: usize,
+    /// In the order of `answer::codes`.
     codes: [usize; CODES],
 }
 
@@ -20,7 +19,8 @@ impl Count {
     pub fn call(&mut self, due: u64) {
         let (code, _) = answer::unpacked(due);
         self.calls += 1;
-        self.codes[code as usize] += 1;
+        let place = answer::codes().position(|known| u64::from(known) == code);
+        self.codes[place.expect("the second program gives known codes only")] += 1;
     }
 
     pub fn add(&mut self, more: &Count) {
@@ -38,7 +38,7 @@ impl Count {
     /// How often each code came back, as a check that each one did.
     pub fn all_codes(&self) -> Result<String, String> {
         let one = |(code, times)| format!("{code}: {times} times");
-        let listed: Vec<String> = self.codes.iter().enumerate().map(one).collect();
+        let listed: Vec<String> = answer::codes().zip(&self.codes).map(one).collect();
         let listed = listed.join(", ");
         if self.codes.contains(&0) {
             Err(listed)

@@ -1,4 +1,4 @@
-//! The theorems that state the client's demands and what document 01 claims.
+//! The theorems that state the client's demands and what documents 01 and 02 claim.
 
 use crate::sources::{Id, Sources};
 
@@ -34,7 +34,13 @@ const THEOREMS: &[(&str, &[&str])] = &[
             "written-means",
             "written-fewest",
             "table-codes",
+            "codes-occur",
+            "table-means",
         ],
+    ),
+    (
+        "numbers/specs/Causes.antt",
+        &["number-cause", "cause-refused", "never-padded-and-large"],
     ),
     (
         "trees/specs/Written.antt",

@@ -1,5 +1,7 @@
 //! What every compared call shares.
 
+use std::collections::BTreeMap;
+
 use second::answer;
 use second::families::Family;
 use second::random::Random;
@@ -10,7 +12,7 @@ use crate::tally::Tally;
 pub struct Call {
     pub name: &'static str,
     /// The codes that the inputs are to meet, so that no part of the comparison is idle.
-    pub codes: &'static [u32],
+    pub codes: &'static [&'static [u32]],
     /// The inputs: so many times as many random ones as usual, from this seed on.
     pub families: fn(usize, u64) -> Vec<Family>,
     /// Makes the call on this table, in every way worth trying, and compares all that it changes.
@@ -27,7 +29,7 @@ impl Call {
         }
         tally.note(
             &format!("{}: every code was met", self.name),
-            met.all_of(self.codes),
+            met.all_of(&self.codes.concat()),
         );
     }
 
@@ -51,22 +53,23 @@ impl Call {
 /// How often each code came back.
 #[derive(Default)]
 pub struct Met {
-    times: [usize; 14],
+    times: BTreeMap<u32, usize>,
 }
 
 impl Met {
     fn count(&mut self, answer: u64) {
         let (code, _) = answer::unpacked(answer);
-        self.times[code as usize] += 1;
+        *self.times.entry(code as u32).or_default() += 1;
     }
 
     fn all_of(&self, codes: &[u32]) -> Result<String, String> {
+        let times = |code| self.times.get(code).copied().unwrap_or(0);
         let listed: Vec<String> = codes
             .iter()
-            .map(|&code| format!("{code}: {} times", self.times[code as usize]))
+            .map(|code| format!("{code}: {} times", times(code)))
             .collect();
         let listed = listed.join(", ");
-        if codes.iter().all(|&code| self.times[code as usize] > 0) {
+        if codes.iter().all(|code| times(code) > 0) {
             Ok(listed)
         } else {
             Err(listed)

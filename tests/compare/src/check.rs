@@ -1,6 +1,6 @@
 //! Checking a table.
 
-use second::answer::packed;
+use second::answer::{packed, DONE, OF_TABLES};
 use second::calls;
 use second::families;
 use second::random::Random;
@@ -10,7 +10,7 @@ use crate::lent::Lent;
 
 pub const CALL: Call = Call {
     name: "check",
-    codes: &[0, 1, 2, 3, 4, 5, 6, 7],
+    codes: &[&[DONE], &OF_TABLES],
     families: families::all,
     compare,
 };

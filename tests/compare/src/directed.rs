@@ -1,6 +1,6 @@
 //! The calls with a direction: blocks, collapse and shrink.
 
-use second::answer::packed;
+use second::answer::{packed, OTHERS, OF_TABLES};
 use second::blocks::{self, definition, Direction};
 use second::calls::{self, Outcome};
 use second::examples::{self, Collapse};
@@ -13,7 +13,7 @@ use crate::call::{same_answer, with_input, Call, Met};
 use crate::room::{compare_in_room, compare_in_rooms};
 use crate::tally::Tally;
 
-const CODES: &[u32] = &[0, 1, 2, 3, 4, 5, 6, 7, 12, 13];
+const CODES: &[&[u32]] = &[&OTHERS, &OF_TABLES];
 
 pub const BLOCKS: Call = Call {
     name: "blocks",

@@ -1,5 +1,6 @@
 //! Writing a read table again.
 
+use second::answer::{DONE, OF_TABLES, ROOM_TOO_SHORT};
 use second::calls;
 use second::families;
 use second::random::Random;
@@ -9,7 +10,7 @@ use crate::room::compare_in_rooms;
 
 pub const CALL: Call = Call {
     name: "rewrite",
-    codes: &[0, 1, 2, 3, 4, 5, 6, 7, 12],
+    codes: &[&[DONE, ROOM_TOO_SHORT], &OF_TABLES],
     families: families::all,
     compare,
 };

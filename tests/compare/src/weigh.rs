@@ -1,6 +1,6 @@
 //! Weighing a tree.
 
-use second::answer::packed;
+use second::answer::{packed, DONE, OF_TABLES, OF_TREES, ROOM_TOO_SHORT};
 use second::calls;
 use second::examples::{self, Weighing};
 use second::families;
@@ -18,7 +18,7 @@ use crate::tally::Tally;
 
 pub const CALL: Call = Call {
     name: "weigh",
-    codes: &[0, 1, 2, 3, 4, 5, 6, 7, 8, 9, 10, 11, 12],
+    codes: &[&[DONE, ROOM_TOO_SHORT], &OF_TABLES, &OF_TREES],
     families: families::all,
     compare,
 };

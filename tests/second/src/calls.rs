@@ -187,6 +187,8 @@ mod tests {
         let shorter = &changed(8, 3)[..19];
         let broken = &changed(17, 3)[..];
         let cut = &a[..5];
+        let padded = &[0x80, 0x00, 0x03][..];
+        let large = &[0xff, 0xff, 0xff, 0xff, 0x10][..];
         let pairs = [
             (a, collapsed),
             (collapsed, a),
@@ -199,6 +201,10 @@ mod tests {
             (broken, cut),
             (a, cut),
             (a, &cut[..0]),
+            (padded, large),
+            (large, padded),
+            (a, padded),
+            (a, large),
         ];
         let lines: String = pairs
             .iter()

@@ -297,16 +297,17 @@ fn wrong_count(random: &mut Random, words: &mut Vec<Word>) {
     }
 }
 
-/// Does to one transition two things that different codes refuse: of 2, 4, 5 and 6 the first that
-/// applies is not always the one of the lowest number.
+/// Does to one transition two things that different codes refuse: of 2, 4, 5, 6 and 19 the first
+/// that applies is not always the one of the lowest number.
 fn two_in_one_transition(random: &mut Random, words: &mut Vec<Word>) {
     if let Some((first, second, end)) = neighbours(random, words) {
         let mut copy = words[first..second].to_vec();
         let hurt = random.below(copy.len());
-        copy[hurt].bytes = match random.below(3) {
+        copy[hurt].bytes = match random.below(4) {
             0 => vec![0],
             1 => number::written(u32::MAX),
-            _ => vec![0x80, 0],
+            2 => vec![0x80, 0],
+            _ => vec![0x80, 0x80, 0x80, 0x80, 0x10],
         };
         words.splice(second..end, copy);
     }
@@ -315,7 +316,7 @@ fn two_in_one_transition(random: &mut Random, words: &mut Vec<Word>) {
 #[cfg(test)]
 mod tests {
     use super::*;
-    use crate::make;
+    use crate::{answer, make};
     use std::collections::BTreeSet;
 
     #[test]
@@ -329,6 +330,6 @@ mod tests {
                 codes.extend(table::read(&bytes).err().map(|refusal| refusal.code));
             }
         }
-        assert_eq!(codes, (1..=7).collect());
+        assert_eq!(codes, answer::OF_TABLES.into_iter().collect());
     }
 }

@@ -1,8 +1,8 @@
 //! The examples of document 01 and of source document 001.
 
 use crate::answer::{
-    Refusal, CODE_IS_ZERO, NOT_ABOVE, NOT_IN_TABLE, NUMBER_BROKEN, OUT_OF_RANGE, TABLE_ENDS,
-    TABLE_GOES_ON,
+    Refusal, CODE_IS_ZERO, NOT_ABOVE, NOT_IN_TABLE, NUMBER_PADDED, NUMBER_TOO_LARGE, OUT_OF_RANGE,
+    TABLE_ENDS, TABLE_GOES_ON,
 };
 use crate::blocks::Direction::{self, Backward, Forward};
 use crate::table::{self, Table, Transition};
@@ -302,7 +302,7 @@ fn at_the_bounds() -> Vec<Example> {
         example(
             "a code of FF FF FF FF 10 doesn't",
             one_code(above),
-            refused(NUMBER_BROKEN, 8),
+            refused(NUMBER_TOO_LARGE, 8),
         ),
         example(
             "a final code of FF FF FF FF 0F passes",
@@ -312,7 +312,7 @@ fn at_the_bounds() -> Vec<Example> {
         example(
             "a final code of FF FF FF FF 10 doesn't",
             one_final(above),
-            refused(NUMBER_BROKEN, 4),
+            refused(NUMBER_TOO_LARGE, 4),
         ),
     ]
 }
@@ -330,23 +330,28 @@ fn within_a_number() -> Vec<Example> {
         example(
             "a fifth byte of 128, no sixth",
             vec![0x80; 5],
-            refused(NUMBER_BROKEN, 0),
+            refused(NUMBER_TOO_LARGE, 0),
         ),
         example(
             "a fifth byte of 0",
             vec![0x80, 0x80, 0x80, 0x80, 0],
-            refused(NUMBER_BROKEN, 0),
+            refused(NUMBER_PADDED, 0),
         ),
         example(
             "a fifth byte due at the end",
             vec![0x80; 4],
             refused(TABLE_ENDS, 4),
         ),
-        example("2 before 3", vec![0x82, 0], refused(NUMBER_BROKEN, 0)),
+        example("2 before 3", vec![0x82, 0], refused(NUMBER_PADDED, 0)),
+        example(
+            "19 before 3",
+            vec![0, 0x81, 0x80, 0x80, 0x80, 0x10],
+            refused(NUMBER_TOO_LARGE, 1),
+        ),
         example(
             "a padded number of states",
             vec![0, 0x83, 0],
-            refused(NUMBER_BROKEN, 1),
+            refused(NUMBER_PADDED, 1),
         ),
     ]
 }
@@ -380,7 +385,22 @@ fn within_a_transition() -> Vec<Example> {
         example(
             "2 before 6",
             equal_and(&[0x83, 0]),
-            refused(NUMBER_BROKEN, 14),
+            refused(NUMBER_PADDED, 14),
+        ),
+        example(
+            "19 before 6",
+            equal_and(&[0x83, 0x80, 0x80, 0x80, 0x10]),
+            refused(NUMBER_TOO_LARGE, 14),
+        ),
+        example(
+            "2 before 19",
+            a_with_end(&[1, 0x81, 0, 0x80, 0x80, 0x80, 0x80, 0x10]),
+            refused(NUMBER_PADDED, 20),
+        ),
+        example(
+            "19 before 2",
+            a_with_end(&[1, 0x80, 0x80, 0x80, 0x80, 0x10, 0x81, 0]),
+            refused(NUMBER_TOO_LARGE, 20),
         ),
         example("1 before 6", equal_and(&[0x83]), refused(TABLE_ENDS, 15)),
         example(

@@ -95,6 +95,7 @@ fn of_a() -> Vec<Family> {
     vec![
         Family::listed("every way to change one byte of A", a_with_one_byte_changed),
         Family::listed("A cut at every length", a_cut),
+        Family::listed("A with one number spelled anew", a_with_one_number_spelled_anew),
     ]
 }
 
@@ -222,6 +223,25 @@ fn a_with_one_byte_changed() -> Inputs {
 
 fn a_cut() -> Inputs {
     Box::new((0..=examples::A.len()).map(|length| examples::A[..length].to_vec()))
+}
+
+/// A with each of its numbers in turn, all of one byte, padded to each length up to six bytes, with
+/// fifth bytes on both sides of each edge, or with the table's end behind one to four bytes.
+fn a_with_one_number_spelled_anew() -> Inputs {
+    Box::new((0..examples::A.len()).flat_map(|at| {
+        let begun = |bytes: usize| {
+            let mut table = examples::A[..=at].to_vec();
+            table[at] |= 0x80;
+            table.resize(at + bytes, 0x80);
+            table
+        };
+        let ending =
+            |bytes, last: u8| [&begun(bytes)[..], &[last], &examples::A[at + 1..]].concat();
+        let padded = (1..=5).map(|bytes| ending(bytes, 0));
+        let fifth = [1, 15, 16, 127, 128, 255].map(|last| ending(4, last));
+        let cut = (1..=4).map(begun);
+        padded.chain(fifth).chain(cut).collect::<Vec<_>>()
+    }))
 }
 
 fn at_most_two_bytes() -> Inputs {

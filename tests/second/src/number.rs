@@ -1,6 +1,6 @@
 //! Numbers in groups of seven bits, lowest group first.
 
-use crate::answer::{Refusal, NUMBER_BROKEN, TABLE_ENDS};
+use crate::answer::{Refusal, NUMBER_PADDED, NUMBER_TOO_LARGE, TABLE_ENDS};
 
 /// A place in the bytes of a table.
 pub struct Cursor<'a> {
@@ -50,20 +50,21 @@ impl<'a> Cursor<'a> {
     /// The number whose first byte, just read, had its top bit set.
     fn rest_of_number(&mut self, lowest_group: u32) -> Result<u32, Refusal> {
         let first = self.at - 1;
-        let broken = Refusal::new(NUMBER_BROKEN, first);
+        let padded = Err(Refusal::new(NUMBER_PADDED, first));
         let mut value = lowest_group;
         for shift in [7, 14, 21] {
             let byte = self.byte()?;
             value |= u32::from(byte & 0x7f) << shift;
             if byte < 0x80 {
-                return if byte == 0 { Err(broken) } else { Ok(value) };
+                return if byte == 0 { padded } else { Ok(value) };
             }
         }
         // Only four bits are left of the 32. A fifth byte with its top bit set is 16 or more too,
         // so there is never a sixth to read.
         match self.byte()? {
+            0 => padded,
             byte @ 1..=15 => Ok(value | u32::from(byte) << 28),
-            _ => Err(broken),
+            _ => Err(Refusal::new(NUMBER_TOO_LARGE, first)),
         }
     }
 
@@ -133,16 +134,25 @@ mod tests {
         assert_eq!(read(&[0xff, 0xff, 0xff, 0xff, 0x0f]), Ok((u32::MAX, 5)));
         assert_eq!(
             read(&[0xff, 0xff, 0xff, 0xff, 0x10]),
-            Err((NUMBER_BROKEN, 0))
+            Err((NUMBER_TOO_LARGE, 0))
         );
     }
 
     #[test]
+    fn every_fifth_byte() {
+        for fifth in 0..=255 {
+            let due = match fifth {
+                0 => Err((NUMBER_PADDED, 0)),
+                1..=15 => Ok((u32::from(fifth) << 28, 5)),
+                16.. => Err((NUMBER_TOO_LARGE, 0)),
+            };
+            assert_eq!(read(&[0x80, 0x80, 0x80, 0x80, fifth]), due);
+        }
+    }
+
+    #[test]
     fn a_fifth_byte_with_its_top_bit_set_needs_no_sixth() {
-        assert_eq!(
-            read(&[0x80, 0x80, 0x80, 0x80, 0x80]),
-            Err((NUMBER_BROKEN, 0))
-        );
+        assert_eq!(read(&[0x80; 5]), Err((NUMBER_TOO_LARGE, 0)));
     }
 
     #[test]
@@ -150,7 +160,7 @@ mod tests {
         for length in 2..=5 {
             let mut bytes = vec![0x81; length];
             bytes[length - 1] = 0;
-            assert_eq!(read(&bytes), Err((NUMBER_BROKEN, 0)));
+            assert_eq!(read(&bytes), Err((NUMBER_PADDED, 0)));
         }
     }
 
