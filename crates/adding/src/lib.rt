@@ -1,6 +1,8 @@
 // A table collapsed by given blocks. One named member stands for each block; the transitions between named members are added up by
 // the keys of their blocks.
 
+#![tactic(auto)]
+
 ghost use Rattle.std.specs.Prelude.{◌≡◌, ℕ, ◌+◌, ◌*◌, ◌≤◌, ◌<◌, false, [], length, get_or};
 ghost use Rattle.theory.specs.Arithmetic.{code_of};
 ghost use Rattle.theory.specs.Blocks.{block_of};

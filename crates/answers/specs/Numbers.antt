@@ -56,6 +56,8 @@ packed answer = answer_code answer * 2 ^ 32 + answer_figure answer
 
 both : (a b : Bool) → T (a && b) → T a × T b
 both true true h = (tt, tt)
+both false b h = elim h [ ]
+both true false h = elim h [ ]
 
 -- no refusal has the code 0
 pub code_some : (refusal : Refusal) → 0 < code_of refusal

@@ -1,10 +1,12 @@
 // What a call answers: done with a figure, or refused with one of the numbers of documents 01 and 02 and its figure.
 
+#![tactic(auto)]
+
 ghost use Rattle.std.specs.Prelude.{◌≡◌, ◌+◌, ◌*◌, ◌<◌, ◌^◌};
 ghost use Rattle.answers.specs.Numbers.{code_of, refusal_figure, answer_figure, packed};
 
 // Why an input is refused, one case for each line of 01's table and each number of 02, with its figure.
-#[derive(Drop)]
+#[derive(Clone, Copy)]
 pub enum Refusal {
     // the table ends where a byte of a number is due
     TableEnds(usize),
@@ -37,7 +39,7 @@ pub enum Refusal {
 }
 
 // The answer of a call that gives back a figure alone.
-#[derive(Drop)]
+#[derive(Clone, Copy)]
 pub enum Answer {
     Done(usize),
     Refused(Refusal),

@@ -1,5 +1,7 @@
 // The two arithmetics at run time: on codes, and on the numbers of a sheet.
 
+#![tactic(auto)]
+
 ghost use Rattle.std.specs.Prelude.{◌≡◌, ◌*◌, ◌%◌, ◌^◌};
 ghost use Rattle.theory.specs.Arithmetic.{arithmetic as semiring, meaning, code_of};
 ghost use Rattle.arith.specs.Numbers.{value_in, number_of, weight_of, Stands, InSheet};

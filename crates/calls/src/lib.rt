@@ -1,5 +1,7 @@
 // The calls on tables: check, rewrite, pick. No caller is trusted to have looked at a table before.
 
+#![tactic(auto)]
+
 ghost use Rattle.std.specs.Prelude.{◌≡◌};
 ghost use Rattle.format.specs.Read.{table_read};
 ghost use Rattle.calls.specs.Answers.{Checks, Rewrites};

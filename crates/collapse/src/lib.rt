@@ -1,5 +1,7 @@
 // The calls that find blocks and shrink: blocks, collapse, shrink. No caller is trusted to have looked at a table before.
 
+#![tactic(auto)]
+
 ghost use Rattle.std.specs.Prelude.{◌≡◌, ◌≤◌, ◌<◌, length, take};
 ghost use Rattle.format.specs.Written.{bytes_of};
 ghost use Rattle.tables.specs.Record.{table_of};

@@ -1,6 +1,8 @@
 // The states that depend on a state: backward the targets of the transitions that have it as a child, forward the children of the
 // transitions that have it as their target.
 
+#![tactic(auto)]
+
 ghost use Rattle.std.specs.Prelude.{◌≡◌, ◌≤◌, ◌<◌, length};
 ghost use Rattle.theory.specs.Direction.{direction as side_of, other};
 ghost use Rattle.uses.specs.Theory.{row_for};

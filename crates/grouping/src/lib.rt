@@ -1,5 +1,7 @@
 // Members of a block are put into parts: those with the same profile under the present blocks.
 
+#![tactic(auto)]
+
 mod comparing;
 mod keys;
 

@@ -1,6 +1,8 @@
 // Reads a table from standard input and says what it is, how its states fall into blocks and how small it collapses, or why it is
 // refused.
 
+#![tactic(auto)]
+
 ghost use Rattle.std.specs.Prelude.{◌≡◌, ◌≤◌};
 ghost use Rattle.answers.specs.Numbers.{answer_figure};
 

@@ -17,6 +17,7 @@ each_members P [] h = tt
 each_members P (x ∷ xs) h = (h x (Memᴰ.head refl), each_members P xs (λ y m. h y (Memᴰ.tail m)))
 
 pub each_member : {A : Type 0} (P : A → Type 0) (xs : List A) → Each P xs → {x : A} → Memᴰ x xs → P x
+each_member P [] m x4 = elim x4 [ ]
 each_member P (x ∷ xs) m (Memᴰ.head e) = subst P (sym e) m.0
 each_member P (x ∷ xs) m (Memᴰ.tail n) = each_member P xs m.1 n
 

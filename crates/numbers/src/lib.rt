@@ -1,18 +1,20 @@
 // Numbers as bytes: groups of seven bits, lowest first, the top bit set on every byte but the last.
 
+#![tactic(auto)]
+
 ghost use Rattle.std.specs.Prelude.{◌≡◌, ◌+◌, ◌<◌, length};
 ghost use Rattle.numbers.specs.Read.{number_at, with_lowest, more_from};
 
 use answers::Refusal;
 
 // A place in a table.
-#[derive(Drop)]
+#[derive(Clone, Copy)]
 pub struct Cursor {
     pub at: usize,
 }
 
 // What stands at a cursor: a number with the next place, or the refusal.
-#[derive(Drop)]
+#[derive(Clone, Copy)]
 pub enum NumberRead {
     Number(u32, Cursor),
     Refused(Refusal),

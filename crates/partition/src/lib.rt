@@ -5,6 +5,8 @@
 // with a private field: outside this crate only a state finds a block in the one, and only a block finds a state in the other. Inside it
 // the bare lists are lent, since a list by value is copied at each call.
 
+#![tactic(auto)]
+
 pub mod members;
 pub mod numbering;
 pub mod parts;

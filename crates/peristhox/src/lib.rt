@@ -1,5 +1,7 @@
 // The C face: each call gives back code times 2^32 plus figure.
 
+#![tactic(auto)]
+
 ghost use Rattle.std.specs.Prelude.{◌≡◌};
 ghost use Rattle.format.specs.Read.{table_read};
 ghost use Rattle.answers.specs.Numbers.{packed};

@@ -1,6 +1,8 @@
 // Tries pick, whose result, a piece of memory, cannot be handed to C. One line a pair of tables: the code, the figure and
 // the length of the piece, and the piece's bytes summed, which tell the two tables apart.
 
+#![tactic(auto)]
+
 use libc::STDOUT_FILENO;
 
 fn main() {

@@ -1,6 +1,8 @@
 // The coarsest bisimulation of a table, in both directions. Blocks are split by the profiles of their members until no state is
 // left to look at; a state is looked at again only where a state that it depends on has a new block.
 
+#![tactic(auto)]
+
 ghost use Rattle.std.specs.Prelude.{◌≡◌, true, false, ℕ, ◌+◌, ◌-◌, ◌≤◌, ◌<◌, length, get_or, take};
 ghost use Rattle.model.specs.Table.{Proper};
 ghost use Rattle.tables.specs.Record.{table_of, Holds};

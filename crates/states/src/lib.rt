@@ -1,5 +1,7 @@
 // The numbers of states and of blocks both begin at 0. Two types keep one from passing for the other.
 
+#![tactic(auto)]
+
 // A state of a table, by its number.
 #[derive(Drop)]
 pub struct State(pub u8);

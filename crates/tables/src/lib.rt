@@ -1,5 +1,7 @@
 // Tables in memory: the record, and the reader that makes one of bytes.
 
+#![tactic(auto)]
+
 ghost use Rattle.std.specs.Prelude.{◌≡◌, ◌+◌, ◌*◌, ◌≤◌, ◌<◌, [], length, get_or, take};
 ghost use Rattle.format.specs.Read.{any, as_found, within, one_of, listed, many, transition_at, transitions_at, table_read};
 ghost use Rattle.model.specs.Table.{lower};

@@ -1,5 +1,7 @@
 // Trees as bytes: one byte a node, the symbol, in prefix order.
 
+#![tactic(auto)]
+
 ghost use Rattle.std.specs.Prelude.{◌≡◌, ◌≤◌, ◌<◌, length, take};
 ghost use Rattle.trees.specs.Read.{tree_read};
 

@@ -1,5 +1,7 @@
 // Weighing a tree: the weight of each node's subtree at each state, and of the whole tree.
 
+#![tactic(auto)]
+
 ghost use Rattle.std.specs.Prelude.{◌≡◌, ℕ, ◌+◌, ◌*◌, ◌^◌, ◌≤◌, ◌<◌, pos, length, get_or};
 ghost use Rattle.theory.specs.Arithmetic.{arithmetic as semiring, meaning};
 ghost use Rattle.theory.specs.Sum.{sum};

@@ -1,5 +1,7 @@
 // Writing: a number, and a table record, in the one written form.
 
+#![tactic(auto)]
+
 ghost use Rattle.std.specs.Prelude.{◌≡◌, ℕ, ◌+◌, ◌*◌, ◌≤◌, ◌<◌, ◌^◌, length, take, drop};
 ghost use Rattle.numbers.specs.Written.{written, written_all};
 ghost use Rattle.format.specs.Written.{transition_numbers, transitions_numbers, bytes_of};
