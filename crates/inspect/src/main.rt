@@ -35,6 +35,7 @@ fn read_full<R: Read>(input: &mut R, buffer: &mut [u8]) -> io::Result<usize>
 
 // The five lines of a table, or the one of a refusal. All calls read the same bytes and are lent the most room that is ever needed,
 // so that none refuses what the first has taken.
+#[tactic(auto, using(crate::proofs::Few::states_few))]
 fn show(rt: &impl Print, table: &[u8]) -> io::Result<()> {
     let reading = tables::read(table);
     let answer = reading.answer;
@@ -55,7 +56,9 @@ fn show_header(rt: &impl Print, table: TableRecord) -> io::Result<()> {
     let states = table.states;
     let symbols = table.symbols;
     let transitions = table.count;
-    println!(rt; "arithmetic {arithmetic} states {states} symbols {symbols} transitions {transitions}")
+    println!(rt;
+        "arithmetic {arithmetic} states {states} symbols {symbols} transitions {transitions}"
+    )
 }
 
 fn show_refusal(rt: &impl Print, refusal: Refusal) -> io::Result<()> {
