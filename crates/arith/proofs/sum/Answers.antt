@@ -8,7 +8,7 @@ use Rattle.arith.proofs.sum.Reads as reads
 use Rattle.arith.proofs.sum.Goals as goal
 
 abbrev Then-arithmetic-eq0 : Type 0
-Then-arithmetic-eq0 = lts.Then1 tie.the-claims reads.Pre reads.Post
+Then-arithmetic-eq0 = lts.Then1 tie.the-claims reads.Pre reads.Post tie.handed_clauses
 
 -- in arithmetic 0 both numbers are below 2^32
 stand : (c : Then-arithmetic-eq0) → Stands 0 c.args.a × Stands 0 c.args.b
@@ -23,7 +23,7 @@ overflow_cast-b c = narrows c.args.b c.ranges.b (stand c).1
 pub returns-then-arithmetic-eq0 : goal.returns-then-arithmetic-eq0
 returns-then-arithmetic-eq0 c =
     rw c.if-arithmetic-eq0.true
-    (sum_modular c.args.a c.args.b c.ranges.a c.ranges.b (stand c.before).0 (stand c.before).1 c.wrapping_add_u32.result c.wrapping_add_u32.ensures)
+    (sum_modular c.args.a c.args.b c.ranges.a c.ranges.b (stand c.before).0 (stand c.before).1 c.wrapping_add_u32.result c.wrapping_add_u32.ensures.value)
 
 pub returns-then-a-b : goal.returns-then-a-b
 returns-then-a-b c =
