@@ -47,7 +47,7 @@ loop-q-preserved c =
     let so_far = c.loop-q.invariant in (
       search rules,
       replaced_more (pos 0) (a.at * a.states) _ a.sheet.now c.loop-q.q _ _ c.loop-q.sheet so_far.1 refl (inside c).0
-          (rw (carried z.result z.type-inv) (stands_zero a.arithmetic 16385 z.result z.ensures)),
+          (rw (carried z.result z.type_inv) (stands_zero a.arithmetic 16385 z.result z.ensures)),
     )
 
 pub shape_of-sheet : goal.shape_of-sheet

@@ -67,7 +67,7 @@ weigh_nodes-weight-requires c =
 pub returns-else-sheet-needed : goal.returns-else-sheet-needed
 returns-else-sheet-needed c =
     let a = c.args in
-    rw (carried c.weigh_nodes-weight.result c.weigh_nodes-weight.type-inv)
+    rw (carried c.weigh_nodes-weight.result c.weigh_nodes-weight.type_inv)
     (tree_weighed (table_of a.t1) a.tree.now a.sheet.now c.in-Nodes.nodes (found c.before.before.before.before.before.before.before.before.before.before.before) c.if-sheet-needed.false c.weigh_nodes-weight.result _ c.weigh_nodes-weight.ensures)
 
 pub returns-in-Refused : goal.returns-in-Refused
