@@ -14,39 +14,41 @@ use Rattle.adding.specs.Rows.{KeyKnown, table_from}
 use Rattle.adding.specs.Collapsing.{CollapsedTo}
 use Rattle.adding.proofs.Whole.{few_states, few_blocks, readable, few_entries, keys_known, made_collapsed}
 use borrow.Author.Rules.{rules}
-use Rattle.adding.proofs.add_up.Statement.{statement}
+use Rattle.adding.proofs.add_up.Lts as lts
 use Rattle.adding.proofs.add_up.Tie as tie
+use Rattle.adding.proofs.add_up.Reads as reads
+use Rattle.adding.proofs.add_up.Goals as goal
 
-record-long : (s : tie.Start) → Long (columns s.args.t2.ranks s.args.t2.symbol s.args.t2.children s.args.t2.target s.args.t2.code)
+abbrev After-sum_up-end : Type 0
+After-sum_up-end = lts.After-sum_up tie.the-claims reads.Pre reads.Post
+
+abbrev Start : Type 0
+Start = lts.Start tie.the-claims reads.Pre reads.Post
+
+record-long : (s : Start) → Long (columns s.args.table.ranks s.args.table.symbol s.args.table.children s.args.table.target s.args.table.code)
 record-long s = record { ranks = search rules; symbol = search rules; children = search rules; target = search rules; code = search rules }
 
-finals_long : (s : tie.Start) → length s.args.t2.finals ≡ 256
+finals_long : (s : Start) → length s.args.table.finals ≡ 256
 finals_long s = search rules
 
-name-members-requires : tie.Need-name-members-requires
-name-members-requires c κs = search rules
+pub final_codes-finals-requires : goal.final_codes-finals-requires
+final_codes-finals-requires c =
+    let side = direction c.args.direction in
+    (few_states side c.args.table c.args.blocks.list c.args.number c.requires.0, few_blocks side c.args.table c.args.blocks.list c.args.number c.requires.0, finals_long c.before.before.before)
 
-final-codes-requires : tie.Need-final-codes-requires
-final-codes-requires c κs =
-    let s = c.before.before.before.before in
-    let side = direction s.args.direction in
-    (few_states side s.args.t2 s.args.blocks.list s.args.number s.requires.0, few_blocks side s.args.t2 s.args.blocks.list s.args.number s.requires.0, finals_long s)
+pub gather-many-requires : goal.gather-many-requires
+gather-many-requires c =
+    (record-long c.before.before.before.before.before.before.before.before.before.before.before, readable (direction c.args.direction) c.args.table c.args.blocks.list c.args.number c.requires.0, c.requires.1, c.requires.2)
 
-gather-requires : tie.Need-gather-requires
-gather-requires c κs =
-    let s = c.before.before.before.before.before.before.before.before.before.before.before.before.before in
-    (record-long s, readable (direction s.args.direction) s.args.t2 s.args.blocks.list s.args.number s.requires.0, s.requires.1, s.requires.2)
-
-sum-up-requires : tie.Need-sum-up-requires
-sum-up-requires c κs =
-    let s = c.before.before.before.before.before.before.before.before.before.before.before.before.before.before.before.before in
-    let held = c.before.before.gather.ensures in
-    record { ordered = omega arith; inside = omega (arith, held.few, (readable (direction s.args.direction) s.args.t2 s.args.blocks.list s.args.number s.requires.0).0); keys_long = held.keys_long; codes_long = held.codes_long }
+pub sum_up-end-requires : goal.sum_up-end-requires
+sum_up-end-requires c =
+    let held = c.gather-many.ensures in
+    record { ordered = omega arith; inside = omega (arith, held.few, (readable (direction c.args.direction) c.args.table c.args.blocks.list c.args.number c.requires.0).0); keys_long = held.keys_long; codes_long = held.codes_long }
 
 -- what the sums say of their keys, and of the table that has them
-module _ (c : tie.After-sum-up) where
+module _ (c : After-sum_up-end) where
   abbrev s : tie.Start
-  s = c.before.before.before.before.before.before.before.before.before.before.before.before.before.before.before.before.before
+  s = c.before.before.before.before.before.before.before.before.before.before.before.before.before.before.before
 
   abbrev keys : List ℕ
   keys = c.sum-up.new.1.0
@@ -83,19 +85,8 @@ module _ (c : tie.After-sum-up) where
       made_collapsed (direction s.args.direction) s.args.t2 s.args.blocks.list s.args.number s.pre.0 named.result.list named.ensures
       _ _ gathers.result gathers.ensures _ _ c.sum-up.result c.sum-up.ensures finals.result finals.ensures.0 finals.ensures.1
 
-table-with-requires : tie.Need-table-with-requires
-table-with-requires c κs = let summed = c.before.before in (few-end summed, keys_long summed, codes_long summed, known-keys summed)
+pub table_with-requires : goal.table_with-requires
+table_with-requires c = (few-end c.before.before, keys_long c.before.before, codes_long c.before.before, known-keys c.before.before)
 
-returns : tie.Need-returns
-returns c = let summed = c.before.before.before in (made summed _ c.table-with.ensures.0 c.table-with.ensures.1, keys_long summed, codes_long summed)
-
-pub add-up-spec : {M : Type 1} → statement M
-add-up-spec =
-    tie.close
-    (tie.spec
-    name-members-requires
-    final-codes-requires
-    gather-requires
-    sum-up-requires
-    table-with-requires
-    returns)
+pub returns : goal.returns
+returns c = (made c.before.before.before _ c.table_with.ensures.0 c.table_with.ensures.1, keys_long c.before.before.before, codes_long c.before.before.before)
