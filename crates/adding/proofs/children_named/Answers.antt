@@ -40,13 +40,13 @@ child-named c more byte b n by =
     ∙ sym (by (get_or c.args.children.now (c.args.j * 4 + c.loop-k.k) 0) byte)
 
 pub loop-k-init : goal.loop-k-init
-loop-k-init c = checking_starts b n _
+loop-k-init c b n by = checking_starts b n _
 
 pub bounds-children-j : goal.bounds-children-j
 bounds-children-j c = let few = rank_few c.before.before.before in omega arith
 
 pub returns-then-not-is_named : goal.returns-then-not-is_named
-returns-then-not-is_named c =
+returns-then-not-is_named c b n by =
     let l = c.loop-k in
     let more = c.loop-k-test.true in
     checking_fails b n (kids_of c.args.children.now c.wide-rank.result c.args.j) l.k (l.invariant b n by) (omega (arith, many c.before.before.before.before.before.before))
@@ -54,13 +54,13 @@ returns-then-not-is_named c =
     ∙ ap (λ (k : ℕ). all_named b n (kids_of c.args.children.now k c.args.j)) (rank_is c.before.before.before.before.before.before)
 
 pub loop-k-preserved : goal.loop-k-preserved
-loop-k-preserved c =
+loop-k-preserved c b n by =
     let l = c.loop-k in
     let more = c.loop-k-test.true in
     checking_goes_on b n (kids_of c.args.children.now c.wide-rank.result c.args.j) l.k (l.invariant b n by) (omega (arith, many c.before.before.before.before.before.before))
     (child-named c.before.before.before.before.before.before more c.is_named.ensures.0 b n by ∙ sym c.is_named.ensures.1 ∙ not-false c.is_named.result c.if-not-is_named.false-raw)
 
 pub returns : goal.returns
-returns c =
+returns c b n by =
     checking_ends b n (kids_of c.args.children.now c.wide-rank.result c.args.j) c.loop-k.k (c.loop-k.invariant b n by) (omega (arith, many c.before.before, c.loop-k-test.false))
     ∙ ap (λ (k : ℕ). all_named b n (kids_of c.args.children.now k c.args.j)) (rank_is c.before.before)

@@ -44,7 +44,7 @@ many-few : (c : In-loop-j) → c.loop-j.many < 4000
 many-few c = omega (arith, (so_far c.before).few, c.loop-j-test.true, c.requires.1.0)
 
 pub loop-j-init : goal.loop-j-init
-loop-j-init c = gathering_starts _ _ _ _ _ _ _ c.requires.2 c.requires.3
+loop-j-init c n by = gathering_starts _ _ _ _ _ _ _ c.requires.2 c.requires.3
 
 pub counts-requires : goal.counts-requires
 counts-requires c =
@@ -76,7 +76,7 @@ pub overflow_add-many : goal.overflow_add-many
 overflow_add-many c = let few = many-few c.before.before.before.before.before.before.before.before.before.before in omega arith
 
 pub loop-j-preserved : goal.loop-j-preserved
-loop-j-preserved c =
+loop-j-preserved c n by =
     let b = block_of c.digits-digits.result in
     let l = c.loop-j in
     let more = c.loop-j-test.true in

@@ -10,6 +10,7 @@ use Rattle.grouping.proofs.comparing.group_by_profile.Lts as lts
 use Rattle.grouping.proofs.comparing.group_by_profile.Tie as tie
 use Rattle.grouping.proofs.comparing.group_by_profile.Reads as reads
 use Rattle.grouping.proofs.comparing.group_by_profile.Goals as goal
+use Rattle.grouping.proofs.comparing.group_by_profile.Goals.{then-m-parts, else-m-parts}
 
 abbrev After-find_part-m : Type 0
 After-find_part-m = lts.After-find_part tie.the-claims reads.Pre reads.Post goal.the-invariant-loop-i goal.the-decreases-loop-i
@@ -47,20 +48,20 @@ loop-i-preserved c =
     let more = c.loop-i-test.true in
     let inside : l.i < 256 = omega (arith, c.requires.4) in
     let first = c.find_part-m.ensures in
-    ⊎_elim
-    (λ w.
+    elim c.if-m-parts.branch [
+    | then-m-parts w ↦
     let new : (n : ℕ) → Grouping n (entries_of a.starts.now a.ends.now a.keys.now a.codes.now) a.found.now (l.i + 1) (l.parts + 1) (set l.leaders l.parts (get_or a.found.now l.i 0)) (set l.part l.i l.parts) =
-    λ n. grouping_leads n (entries_of a.starts.now a.ends.now a.keys.now a.codes.now) a.found.now l.i l.parts l.leaders l.part (l.invariant.4 n) l.invariant.2 inside l.invariant.3 l.invariant.1 (λ m h. (first n).differ m (omega (arith, w.0.taken))) in
-    (omega arith, rw w.2 (omega (arith, l.invariant.1)), length-set l.part l.i _ ∙ l.invariant.2, rw w.1 (length-set l.leaders _ _ ∙ l.invariant.3), λ n. rw (w.1, w.2, w.0.taken) (new n)))
-    (λ w.
-    let known : c.find_part-m.result < l.parts = omega (arith, (first 0).some, w.0.left) in (
+    λ n. grouping_leads n (entries_of a.starts.now a.ends.now a.keys.now a.codes.now) a.found.now l.i l.parts l.leaders l.part (l.invariant.4 n) l.invariant.2 inside l.invariant.3 l.invariant.1 (λ m h. (first n).differ m (omega (arith, w.if-m-parts.true))) in
+    (omega arith, rw w.parts-is (omega (arith, l.invariant.1)), length-set l.part l.i _ ∙ l.invariant.2, rw w.leaders-is (length-set l.leaders _ _ ∙ l.invariant.3), λ n. rw (w.leaders-is, w.parts-is, w.if-m-parts.true) (new n))
+    | else-m-parts w ↦
+    let known : c.find_part-m.result < l.parts = omega (arith, (first 0).some, w.if-m-parts.false) in (
       omega arith,
-      rw w.2 (omega (arith, l.invariant.1)),
+      rw w.parts-is (omega (arith, l.invariant.1)),
       length-set l.part l.i _ ∙ l.invariant.2,
-      rw w.1 l.invariant.3,
-      λ n. rw (w.1, w.2) (grouping_joins n (entries_of a.starts.now a.ends.now a.keys.now a.codes.now) a.found.now l.i l.parts l.leaders l.part (l.invariant.4 n) l.invariant.2 inside c.find_part-m.result known ((first n).same known)),
-    ))
-    c.if-m-parts.branch
+      rw w.leaders-is l.invariant.3,
+      λ n. rw (w.leaders-is, w.parts-is) (grouping_joins n (entries_of a.starts.now a.ends.now a.keys.now a.codes.now) a.found.now l.i l.parts l.leaders l.part (l.invariant.4 n) l.invariant.2 inside c.find_part-m.result known ((first n).same known)),
+    )
+    ]
 
 pub returns : goal.returns
 returns c =

@@ -13,6 +13,7 @@ use Rattle.grouping.proofs.keys.key_at.Lts as lts
 use Rattle.grouping.proofs.keys.key_at.Tie as tie
 use Rattle.grouping.proofs.keys.key_at.Reads as reads
 use Rattle.grouping.proofs.keys.key_at.Goals as goal
+use Rattle.grouping.proofs.keys.key_at.Goals.{then-k-place, else-k-place}
 
 abbrev After-result-1 : Type 0
 After-result-1 = lts.After-result tie.the-claims reads.Pre reads.Post goal.the-invariant-loop-k goal.the-decreases-loop-k
@@ -56,10 +57,10 @@ loop-k-preserved c =
     let long = c.requires.0.children_long in
     let inside = c.requires.3.inside in
     let few = rank_few c.before.before in
-    ⊎_elim
-    (λ w. (omega arith, rw (w.3, w.2.ensures.0) (sym (packing_next a.children.now (a.u / 4) c.wide-rank.result l.k (a.u % 4) l.packed long inside few more w.0.taken) ∙ l.invariant.1), rw w.3 (room_next l.packed l.k w.2.result l.invariant.2 w.2.ensures.1)))
-    (λ w. (omega arith, rw w.1 (sym (packing_skips a.children.now (a.u / 4) c.wide-rank.result l.k (a.u % 4) l.packed long inside few more w.0.left) ∙ l.invariant.1), rw w.1 (room_more l.packed l.k l.invariant.2)))
-    c.if-k-place.branch
+    elim c.if-k-place.branch [
+    | then-k-place w ↦ (omega arith, rw (w.packed-is, w.long.ensures.0) (sym (packing_next a.children.now (a.u / 4) c.wide-rank.result l.k (a.u % 4) l.packed long inside few more w.if-k-place.true) ∙ l.invariant.1), rw w.packed-is (room_next l.packed l.k w.long.result l.invariant.2 w.long.ensures.1))
+    | else-k-place w ↦ (omega arith, rw w.packed-is (sym (packing_skips a.children.now (a.u / 4) c.wide-rank.result l.k (a.u % 4) l.packed long inside few more w.if-k-place.false) ∙ l.invariant.1), rw w.packed-is (room_more l.packed l.k l.invariant.2))
+    ]
 
 pub overflow_mul-result-2 : goal.overflow_mul-result-2
 overflow_mul-result-2 c = let most = packed_few c.before.before.before in omega arith

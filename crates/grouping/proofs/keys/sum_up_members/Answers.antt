@@ -22,7 +22,7 @@ overflow_cast-ends c =
     let p = get_or a.found.now c.loop-i.i 0 in
     let small : p < 256 = omega (arith, c.wide-at.ensures.0, c.wide-at.ensures.1) in
     let most = starts_ascend (side_of a.direction) a.ranks.now a.symbol.now a.starts.now a.list.now c.requires.4 (suc p) 256 small (omega arith) in
-    omega (arith, c.sum_up_one-end.ensures.0.within, c.requires.4.few)
+    omega (arith, c.sum_up_one-end.ensures.profiled.within, c.requires.4.few)
 
 pub loop-i-smaller : goal.loop-i-smaller
 loop-i-smaller c = let l = c.loop-i in let more = c.loop-i-test.true in omega arith
@@ -33,7 +33,7 @@ loop-i-preserved c =
     let l = c.loop-i in
     let more = c.loop-i-test.true in
     let own = c.wide-at.ensures.0 in
-    (omega arith, profiling_goes_on (side_of a.direction) a.ranks.now a.symbol.now a.starts.now a.list.now c.requires.4 (entry_of (side_of a.direction) a.ranks.now a.symbol.now a.children.now a.target.now a.code.now (block_of a.digits.now)) a.arithmetic a.found.now l.ends l.keys l.codes c.sum_up_one-end.new.keys c.sum_up_one-end.new.codes l.i c.wide-at.result c.sum_up_one-end.result l.invariant.1 own c.wide-at.ensures.1 (rw own c.sum_up_one-end.ensures.0) (rw own c.sum_up_one-end.ensures.1.0) (rw own c.sum_up_one-end.ensures.1.1))
+    (omega arith, profiling_goes_on (side_of a.direction) a.ranks.now a.symbol.now a.starts.now a.list.now c.requires.4 (entry_of (side_of a.direction) a.ranks.now a.symbol.now a.children.now a.target.now a.code.now (block_of a.digits.now)) a.arithmetic a.found.now l.ends l.keys l.codes c.sum_up_one-end.new.keys c.sum_up_one-end.new.codes l.i c.wide-at.result c.sum_up_one-end.result l.invariant.1 own c.wide-at.ensures.1 (rw own c.sum_up_one-end.ensures.profiled) (rw own c.sum_up_one-end.ensures.kept.0) (rw own c.sum_up_one-end.ensures.kept.1))
 
 pub returns : goal.returns
 returns c =

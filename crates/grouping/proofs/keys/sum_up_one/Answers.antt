@@ -12,7 +12,7 @@ use Rattle.grouping.proofs.keys.sum_up_one.Reads as reads
 use Rattle.grouping.proofs.keys.sum_up_one.Goals as goal
 
 abbrev After-wide16-hi : Type 0
-After-wide16-hi = lts.After-wide162 tie.the-claims reads.Pre reads.Post
+After-wide16-hi = lts.After-wide162 tie.the-claims reads.Pre reads.Post tie.handed_clauses
 
 -- the region is that of p
 region : (c : After-wide16-hi) → (c.wide16-lo.result ≡ start c.args.starts.now c.args.p.0) × (c.wide16-hi.result ≡ start c.args.starts.now (suc c.args.p.0))
@@ -51,4 +51,7 @@ returns c =
     let r = region c.before.before.before.before.before.before.before in
     let f = c.fill.ensures in
     let s = c.sum_up.ensures in
-    rw (← r.0, ← r.1) (profiled a.arithmetic _ _ _ _ a.keys.now a.codes.now _ _ _ _ f s, (kept_then _ _ a.keys.now _ _ f.keys_kept s.keys_kept, kept_then _ _ a.codes.now _ _ f.codes_kept s.codes_kept))
+    rw (← r.0, ← r.1) record {
+      profiled = profiled a.arithmetic _ _ _ _ a.keys.now a.codes.now _ _ _ _ f s;
+      kept = (kept_then _ _ a.keys.now _ _ f.keys_kept s.keys_kept, kept_then _ _ a.codes.now _ _ f.codes_kept s.codes_kept);
+    }
