@@ -1,7 +1,6 @@
 -- `weigh::product_of` meets its contract. The invariant is `Multiplying`.
 -- Assumes nothing.
 use Prim.Native.Nat.{◌-◌}
-use native.Mathlib.Omega.{arith}
 use Rattle.weigh.specs.Rows.{sources}
 use Rattle.weigh.proofs.Multiplying.{Multiplying}
 use Rattle.weigh.proofs.product_of.Given as goal
