@@ -1,6 +1,5 @@
 -- `weigh::decode` meets its contract. The invariant: j numbers are stored.
 -- Assumes nothing.
-use Prim.Native.Nat.{◌-◌}
 use native.Mathlib.Omega.{arith}
 use lib.IntN.{pos}
 use lib.ListN.{get_or}

@@ -1,6 +1,6 @@
 -- `weigh::root_weight` meets its contract. The invariant is `Totalling`.
 -- Assumes nothing.
-use Prim.Native.Nat.{ℕ, ◌-◌}
+use Prim.Native.Nat.{ℕ}
 use native.Mathlib.Omega.{arith}
 use lib.IntN.{pos}
 use lib.ListN.{get_or}

@@ -158,7 +158,7 @@ loop-at-preserved c =
     let filled = subst (λ (r : Row). Replaced (pos 0) (r.at * c.args.states) c.args.states
     (λ q. StandsFor c.args.arithmetic 16385 (sum_into c.args.arithmetic (sources-of c.before.before.before.before.before.before.before.before.before r.top) c.args.target.now r.rank r.from r.to q)) l.sheet later)
     c.row_of-row.ensures c.fill_row.ensures in
-    subst (λ (c.before.before.before.before.before.before.before.before.before : ℕ). Filling (table_of c.before.before.before.before.before.before.before.before.before.before.before.before.before.before.before.before) c.args.tree.now c.args.sheet.now later (set l.stack (l.top + c.before.before.before.before.before.before.before.before.before - 1) (l.at - 1)) (l.top + c.before.before.before.before.before.before.before.before.before - 1) (l.at - 1)) (sym same)
+    subst (λ (r : ℕ). Filling (table_of c.before.before.before.before.before.before.before.before.before.before.before.before.before.before.before.before) c.args.tree.now c.args.sheet.now later (set l.stack (l.top + r - 1) (l.at - 1)) (l.top + r - 1) (l.at - 1)) (sym same)
     (filling_goes_on (l.at - 1) c.requires.room (so_far c.before.before.before.before.before.before.before.before.before) here.rank_is (omega arith) (omega arith) filled (λ q x m h. h.number ∙ ap (number_of c.args.arithmetic) (here.weights q)))
 
 pub root_weight-requires : goal.root_weight-requires
