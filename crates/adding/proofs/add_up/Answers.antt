@@ -47,46 +47,43 @@ sum_up-end-requires c =
 
 -- what the sums say of their keys, and of the table that has them
 module _ (c : After-sum_up-end) where
-  abbrev s : tie.Start
-  s = c.before.before.before.before.before.before.before.before.before.before.before.before.before.before.before
-
   abbrev keys : List ℕ
-  keys = c.sum-up.new.1.0
+  keys = c.sum_up-end.new.keys
 
   abbrev codes : List ℕ
-  codes = c.sum-up.new.1.1.0
+  codes = c.sum_up-end.new.codes
 
-  few-end : c.sum-up.result ≤ 4000
+  few-end : c.sum_up-end.result ≤ 4000
   few-end =
-      let named = c.before.before.before.before.before.before.before.before.before.before.before.before.before.before.before.name-members in
-      let gathers = c.before.before.before.gather in
-      few_entries (direction s.args.direction) s.args.t2 s.args.blocks.list s.args.number s.pre.0 named.result.list named.ensures
-      _ _ gathers.result gathers.ensures _ _ c.sum-up.result c.sum-up.ensures
+      let named = c.name_members-names in
+      let gathers = c.gather-many in
+      few_entries (direction c.args.direction) c.args.table c.args.blocks.list c.args.number c.requires.0 named.result.list named.ensures
+      _ _ gathers.result gathers.ensures _ _ c.sum_up-end.result c.sum_up-end.ensures
 
-  known-keys : (i : ℕ) → i < c.sum-up.result → KeyKnown s.args.t2.ranks (get_or keys i 0)
+  known-keys : (i : ℕ) → i < c.sum_up-end.result → KeyKnown c.args.table.ranks (get_or keys i 0)
   known-keys =
-      let named = c.before.before.before.before.before.before.before.before.before.before.before.before.before.before.before.name-members in
-      let gathers = c.before.before.before.gather in
-      keys_known (direction s.args.direction) s.args.t2 s.args.blocks.list s.args.number s.pre.0 named.result.list named.ensures
-      _ _ gathers.result gathers.ensures _ _ c.sum-up.result c.sum-up.ensures
+      let named = c.name_members-names in
+      let gathers = c.gather-many in
+      keys_known (direction c.args.direction) c.args.table c.args.blocks.list c.args.number c.requires.0 named.result.list named.ensures
+      _ _ gathers.result gathers.ensures _ _ c.sum_up-end.result c.sum_up-end.ensures
 
   keys_long : length keys ≡ 16000
-  keys_long = c.sum-up.ensures.keys_kept.long ∙ c.before.before.before.gather.ensures.keys_long
+  keys_long = c.sum_up-end.ensures.keys_kept.long ∙ c.gather-many.ensures.keys_long
 
   codes_long : length codes ≡ 16000
-  codes_long = c.sum-up.ensures.codes_kept.long ∙ c.before.before.before.gather.ensures.codes_long
+  codes_long = c.sum_up-end.ensures.codes_kept.long ∙ c.gather-many.ensures.codes_long
 
-  made : (r : TableRecord) → table_of r ≡ table_from s.args.t2.arithmetic s.args.number s.args.t2.symbols s.args.t2.ranks c.before.before.before.before.before.before.before.before.before.before.before.before.final-codes.result (entries keys codes 0 c.sum-up.result)
-      → r.symbols ≡ s.args.t2.symbols → CollapsedTo (direction s.args.direction) s.args.t2 s.args.blocks.list r
+  made : (r : TableRecord) → table_of r ≡ table_from c.args.table.arithmetic c.args.number c.args.table.symbols c.args.table.ranks c.final_codes-finals.result (entries keys codes 0 c.sum_up-end.result)
+      → r.symbols ≡ c.args.table.symbols → CollapsedTo (direction c.args.direction) c.args.table c.args.blocks.list r
   made =
-      let named = c.before.before.before.before.before.before.before.before.before.before.before.before.before.before.before.name-members in
-      let finals = c.before.before.before.before.before.before.before.before.before.before.before.before.final-codes in
-      let gathers = c.before.before.before.gather in
-      made_collapsed (direction s.args.direction) s.args.t2 s.args.blocks.list s.args.number s.pre.0 named.result.list named.ensures
-      _ _ gathers.result gathers.ensures _ _ c.sum-up.result c.sum-up.ensures finals.result finals.ensures.0 finals.ensures.1
+      let named = c.name_members-names in
+      let finals = c.final_codes-finals in
+      let gathers = c.gather-many in
+      made_collapsed (direction c.args.direction) c.args.table c.args.blocks.list c.args.number c.requires.0 named.result.list named.ensures
+      _ _ gathers.result gathers.ensures _ _ c.sum_up-end.result c.sum_up-end.ensures finals.result finals.ensures.0 finals.ensures.1
 
 pub table_with-requires : goal.table_with-requires
-table_with-requires c = (few-end c.before.before, keys_long c.before.before, codes_long c.before.before, known-keys c.before.before)
+table_with-requires c = (few-end c, keys_long c, codes_long c, known-keys c)
 
 pub returns : goal.returns
-returns c = (made c.before.before.before _ c.table_with.ensures.0 c.table_with.ensures.1, keys_long c.before.before.before, codes_long c.before.before.before)
+returns c = (made c.before _ c.table_with.ensures.0 c.table_with.ensures.1, keys_long c.before, codes_long c.before)

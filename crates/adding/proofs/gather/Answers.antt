@@ -17,6 +17,7 @@ use Rattle.adding.proofs.gather.Lts as lts
 use Rattle.adding.proofs.gather.Tie as tie
 use Rattle.adding.proofs.gather.Reads as reads
 use Rattle.adding.proofs.gather.Goals as goal
+use Rattle.adding.proofs.gather.Goals.{then-counts, else-counts}
 
 abbrev After-digits-digits : Type 0
 After-digits-digits = lts.After-digits tie.the-claims reads.Pre reads.Post goal.the-invariant-loop-j goal.the-decreases-loop-j
@@ -83,10 +84,10 @@ loop-j-preserved c n by =
     let counts-is = counted_same b n (side_of c.args.direction)
     (row_at (columns c.args.ranks.now c.args.symbol.now c.args.children.now c.args.target.now c.args.code.now) l.j)
     (row_at (columns c.args.ranks.now c.args.symbol.now c.args.children.now c.args.target.now []) l.j) refl refl ∙ sym (c.counts.ensures b n by) in
-    ⊎_elim
-    (λ w. rw (w.4, w.5, w.6) (gathering_takes _ _ _ _ _ l.keys l.codes l.many l.j (l.invariant n by) more c.requires.1.0 (counts-is ∙ w.0.taken) _ _ w.2.ensures refl))
-    (λ w. rw (w.1, w.2, w.3) (gathering_skips _ _ _ _ _ l.keys l.codes l.many l.j (l.invariant n by) more (counts-is ∙ w.0.left)))
-    c.if-counts.branch
+    elim c.if-counts.branch [
+    | then-counts w ↦ rw (w.keys-is, w.codes-is, w.many-is) (gathering_takes _ _ _ _ _ l.keys l.codes l.many l.j (l.invariant n by) more c.requires.1.0 (counts-is ∙ w.if-counts.true) _ _ w.key_of.ensures refl)
+    | else-counts w ↦ rw (w.keys-is, w.codes-is, w.many-is) (gathering_skips _ _ _ _ _ l.keys l.codes l.many l.j (l.invariant n by) more (counts-is ∙ w.if-counts.false))
+    ]
 
 pub returns : goal.returns
 returns c =
