@@ -29,25 +29,19 @@ After-start-start = lts.After-start tie.the-claims reads.Pre reads.Post
 abbrev Start : Type 0
 Start = lts.Start tie.the-claims reads.Pre reads.Post
 
--- the table and the direction
-abbrev table : (s : Start) → TableRecord
-table s = s.args.table
-
-abbrev side : (s : Start) → Direction
-side s = side_of s.args.direction
 
 -- the arrays of a table record have their lengths
-long : (s : Start) → Long (table s).ranks (table s).symbol (table s).children (table s).target × (length (table s).code ≡ 4000) × (length (table s).finals ≡ 256)
+long : (s : Start) → Long s.args.table.ranks s.args.table.symbol s.args.table.children s.args.table.target × (length s.args.table.code ≡ 4000) × (length s.args.table.finals ≡ 256)
 long s = (record { ranks_long = search rules; symbol_long = search rules; children_long = search rules; target_long = search rules }, search rules, search rules)
 
 -- the uses of each state, of the own and of the other side
 abbrev lists : (c : After-index_both_sides) → List ℕ × List ℕ × List ℕ × List ℕ
-lists c = let l = c.index_both_sides.new.1.1.1.1.1.1 in (l.0, l.1.0, l.1.1.0, l.1.1.1.0)
+lists c = let l = c.index_both_sides.new in (l.starts, l.list, l.other_starts, l.other_list)
 
-own : (c : After-index_both_sides) → IndexOf (table c.before.before.before.before.before.before.before.before.before) (side c.before.before.before.before.before.before.before.before.before) (lists c).0 (lists c).1
+own : (c : After-index_both_sides) → IndexOf c.args.table (side_of c.args.direction) (lists c).0 (lists c).1
 own c = c.index_both_sides.ensures.0
 
-opposite : (c : After-index_both_sides) → IndexOf (table c.before.before.before.before.before.before.before.before.before) (other (side c.before.before.before.before.before.before.before.before.before)) (lists c).2 (lists c).3
+opposite : (c : After-index_both_sides) → IndexOf c.args.table (other (side_of c.args.direction)) (lists c).2 (lists c).3
 opposite c = c.index_both_sides.ensures.1
 
 -- at the start every state is dirty
@@ -55,11 +49,10 @@ all-dirty : (q : ℕ) → q < 256 → flag (replicate 256 true) q ≡ true
 all-dirty q l = get_or-replicate {A = Bool} 256 q true false l
 
 started : (c : After-start-start) →
-    let s = entered c.before.before.before in
-    Present (table s) (side s) c.start-start.result.blocks.list (replicate 256 true) c.start-start.result.number
+    let s = c.args in
+    Present s.table (side_of s.direction) c.start-start.result.blocks.list (replicate 256 true) c.start-start.result.number
 started c =
-    let s = entered c.before.before.before in
-    present_starts s.pre.1 s.pre.2 _ c.start-start.ensures refl (λ q l. all-dirty q (omega (arith, s.pre.2.states_few)))
+    present_starts c.requires.1 c.requires.2 _ c.start-start.ensures refl (λ q l. all-dirty q (omega (arith, c.requires.2.states_few)))
 
 pub index_both_sides-requires : goal.index_both_sides-requires
 index_both_sides-requires c =
@@ -89,8 +82,8 @@ split_until_clean-refined-requires c =
       record {
         long = (long c.before.before.before.before.before.before.before.before.before.before.before.before.before.before.before.before.before.before.before.before.before.before).0;
         code_long = (long c.before.before.before.before.before.before.before.before.before.before.before.before.before.before.before.before.before.before.before.before.before.before).1;
-        own = uses_listed (table c.before.before.before.before.before.before.before.before.before.before.before.before.before.before.before.before.before.before.before.before.before.before) (side c.before.before.before.before.before.before.before.before.before.before.before.before.before.before.before.before.before.before.before.before.before.before) (own c.before.before.before.before.before.before.before.before.before.before.before.before.before) rows;
-        other = uses_listed (table c.before.before.before.before.before.before.before.before.before.before.before.before.before.before.before.before.before.before.before.before.before.before) (other (side c.before.before.before.before.before.before.before.before.before.before.before.before.before.before.before.before.before.before.before.before.before.before)) (opposite c.before.before.before.before.before.before.before.before.before.before.before.before.before) rows;
+        own = uses_listed c.args.table (side_of c.args.direction) (own c.before.before.before.before.before.before.before.before.before.before.before.before.before) rows;
+        other = uses_listed c.args.table (other (side_of c.args.direction)) (opposite c.before.before.before.before.before.before.before.before.before.before.before.before.before) rows;
       },
       c.requires.2.states_few,
       c.requires.3,
@@ -100,11 +93,11 @@ split_until_clean-refined-requires c =
     )
 
 pub by_first_use-requires : goal.by_first_use-requires
-by_first_use-requires c = (entered (indexed c.before.before.before.before.before.before.before.before.before.before.before.before.before)).requires.2.states_few
+by_first_use-requires c = c.requires.2.states_few
 
 pub returns : goal.returns
 returns c =
-    let i = indexed c.before.before.before.before.before.before.before.before.before.before.before.before.before.before in
+    let i : After-index_both_sides = c.before.before.before.before.before.before.before.before.before.before.before.before.before.before.before.before in
     let e = c.split_until_clean-refined.ensures in
     let end = present_after (own i) (opposite i) (started c.before.before.before.before.before.before.before.before.before.before.before.before.before.before) e.2.splits in
     (present_ends end e.2.clean c.by_first_use.ensures, present_count end e.2.clean c.by_first_use.ensures, e.0, e.1)

@@ -17,5 +17,4 @@ index_uses-requires-2 c =
 pub returns : goal.returns
 returns c =
     let a = c.args in
-    let other = c.index_uses-2.new.1.1.1.1.1.1 in
-    (c.index_uses.ensures, subst (λ (d : Direction). Indexed (uses_of d a.count a.ranks.now a.symbol.now a.children.now a.target.now) other.0 other.1.0) (other_side a.direction c.requires.0) c.index_uses-2.ensures)
+    (c.index_uses.ensures, subst (λ (d : Direction). Indexed (uses_of d a.count a.ranks.now a.symbol.now a.children.now a.target.now) c.index_uses-2.new.starts c.index_uses-2.new.list) (other_side a.direction c.requires.0) c.index_uses-2.ensures)

@@ -13,6 +13,7 @@ use Rattle.refine.proofs.number_parts.Lts as lts
 use Rattle.refine.proofs.number_parts.Tie as tie
 use Rattle.refine.proofs.number_parts.Reads as reads
 use Rattle.refine.proofs.number_parts.Goals as goal
+use Rattle.refine.proofs.number_parts.Goals.{then-parts-gt1, else-parts-gt1}
 
 abbrev After-renumber-blocks : Type 0
 After-renumber-blocks = lts.After-renumber tie.the-claims reads.Pre reads.Post
@@ -31,9 +32,9 @@ renumbered c = rw c.of-block.ensures at c.renumber-blocks.ensures
 -- the flags with the marks
 numbered : (c : After-renumber-blocks) (dirty : List Bool) →
     let a = c.args in
-    Marked (DependsOnMoved (side_of a.direction) a.gathered.count c.keeper-keeper.result a.found.now a.part.now a.ranks.now a.symbol.now a.children.now a.target.now a.other-starts.now a.other-list.now) (cleared c) dirty
+    Marked (DependsOnMoved (side_of a.direction) a.gathered.count c.keeper-keeper.result a.found.now a.part.now a.ranks.now a.symbol.now a.children.now a.target.now a.other_starts.now a.other_list.now) (cleared c) dirty
     → (a.parts ≡ 1 → dirty ≡ cleared c)
-    → PartsNumbered (Depends (side_of a.direction) a.ranks.now a.symbol.now a.children.now a.target.now a.other-starts.now a.other-list.now)
+    → PartsNumbered (Depends (side_of a.direction) a.ranks.now a.symbol.now a.children.now a.target.now a.other_starts.now a.other_list.now)
     (get_or a.present.blocks.list a.first.0 0) a.present.number a.gathered.count a.gathered.clean a.found.now a.parts a.part.now a.present.blocks.list a.dirty.now
     c.renumber-blocks.result.list dirty
 numbered c dirty marked unmarked = record {
@@ -73,10 +74,11 @@ pub returns : goal.returns
 returns c =
     let keeps = c.keeper-keeper.ensures.0 in (
       refl,
-      ⊎_elim
-          (λ w. numbered c.before c.if-parts-gt1.dirty (rw w.3 w.2.ensures) (λ e. absurd (omega (arith, w.0.taken))))
-          (λ w. numbered c.before c.if-parts-gt1.dirty
-          (rw w.1 (marking_starts _ _ (λ q m. m.3.0 (omega (arith, c.requires.5.within m.0 m.2, w.0.left))) (renumbered c.before).dirty_long))
-          (λ e. w.1))
-          c.if-parts-gt1.branch,
+      elim c.if-parts-gt1.branch [
+      | then-parts-gt1 w ↦ numbered c.before c.if-parts-gt1.dirty (rw w.dirty-is w.mark_moved.ensures) (λ e. absurd (omega (arith, w.if-parts-gt1.true)))
+      | else-parts-gt1 w ↦
+          numbered c.before c.if-parts-gt1.dirty
+          (rw w.dirty-is (marking_starts _ _ (λ q m. m.3.0 (omega (arith, c.requires.5.within m.0 m.2, w.if-parts-gt1.false))) (renumbered c.before).dirty_long))
+          (λ e. w.dirty-is)
+      ],
     )

@@ -29,7 +29,7 @@ pub loop-first-preserved : goal.loop-first-preserved
 loop-first-preserved c =
     let s = c.split-present.ensures in
     let f = c.first_dirty-first-in-loop-first.ensures in
-    (another c.loop-first.inv.0 s.2, s.0, s.1, f.1, f.2)
+    (another c.loop-first.invariant.0 s.2, s.0, s.1, f.1, f.2)
 
 pub returns : goal.returns
 returns c =
