@@ -31,7 +31,7 @@ returns c =
       weighs = w.ensures;
       answer_is = c.pack.ensures;
       weight_is = elim c.if-weighing.branch [
-      | then-weighing t ↦ t.weight-is ∙ to_z-of_z fit ∙ sym (ap lent t.if-weighing.true)
-      | else-weighing t ↦ t.weight-is ∙ sym (ap lent t.if-weighing.false)
+        | then-weighing t ↦ t.weight-is ∙ to_z-of_z fit ∙ sym (ap lent t.if-weighing.true)
+        | else-weighing t ↦ t.weight-is ∙ sym (ap lent t.if-weighing.false)
       ];
     }
