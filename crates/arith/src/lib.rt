@@ -72,7 +72,7 @@ fn wrapping_product(a: u32, b: u32) -> u32
 }
 
 // What a code means in arithmetic 1.
-#[derive(Drop)]
+#[derive(Clone, Copy)]
 enum Meaning {
     Nothing,
     Number(i32),

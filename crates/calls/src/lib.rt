@@ -39,13 +39,13 @@ pub fn rewrite(table: &[u8], room: &mut [u8]) -> Answer
 }
 
 // What counts for a pick.
-#[derive(Drop)]
+#[derive(Clone, Copy)]
 pub struct Size {
     pub states: usize,
     pub transitions: usize,
 }
 
-#[derive(Drop)]
+#[derive(Clone, Copy)]
 pub enum SizeRead {
     Taken(Size),
     Refused(Refusal),
@@ -66,7 +66,7 @@ fn size_of(table: &[u8]) -> SizeRead
 }
 
 // Which of two tables is picked, or why none is.
-#[derive(Drop)]
+#[derive(Clone, Copy)]
 pub enum Choice {
     First,
     Second,
@@ -115,7 +115,7 @@ pub fn pick<'a>(first: &'a [u8], second: &'a [u8]) -> &'a [u8]
 }
 
 // The code and the figure of a pick.
-#[derive(Drop)]
+#[derive(Clone, Copy)]
 pub struct PickAnswer {
     pub code: u32,
     pub figure: usize,

@@ -19,7 +19,7 @@ use partition::Partition;
 use tables::TableRecord;
 
 // What a collapse or a shrink gives back: the answer, and beside it the new counts of states and transitions (0 on refusal).
-#[derive(Drop)]
+#[derive(Clone, Copy)]
 pub struct Counted {
     pub answer: Answer,
     pub states: usize,

@@ -16,19 +16,19 @@ ghost use Rattle.std.specs.Prelude.{◌≡◌, false, ◌++◌, ℕ, ◌≤◌, 
 use states::{Block, State};
 
 // The block of each state.
-#[derive(Drop)]
+#[derive(Clone, Copy)]
 pub struct BlockList {
     list: [u8; 256],
 }
 
 // A member of each block, which stands for it.
-#[derive(Drop)]
+#[derive(Clone, Copy)]
 pub struct NameList {
     list: [u8; 256],
 }
 
 // The block of each state, and how many blocks there are.
-#[derive(Drop)]
+#[derive(Clone, Copy)]
 pub struct Partition {
     pub blocks: BlockList,
     pub number: usize,

@@ -7,7 +7,7 @@ use crate::{BlockList, wide};
 use states::{Block, State};
 
 // How many members are found, and the place of the clean one among them; 256 if there is none.
-#[derive(Drop)]
+#[derive(Clone, Copy)]
 pub struct Gathered {
     pub count: usize,
     pub clean: usize,

@@ -3,9 +3,9 @@
 #![tactic(auto)]
 
 // A state of a table, by its number.
-#[derive(Drop)]
+#[derive(Clone, Copy)]
 pub struct State(pub u8);
 
 // A block of states, by its number.
-#[derive(Drop)]
+#[derive(Clone, Copy)]
 pub struct Block(pub u8);

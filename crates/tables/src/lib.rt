@@ -13,7 +13,7 @@ use numbers::{Cursor, NumberRead};
 use states::State;
 
 // A table in memory. Of each array the first places count: as many as there are symbols, states or transitions.
-#[derive(Drop)]
+#[derive(Clone, Copy)]
 pub struct TableRecord {
     pub arithmetic: u32,
     pub states: usize,
@@ -29,14 +29,14 @@ pub struct TableRecord {
 }
 
 // A step of the reader: on to the next place, or refused.
-#[derive(Drop)]
+#[derive(Clone, Copy)]
 pub enum Step {
     Next(Cursor),
     Refused(Refusal),
 }
 
 // A state of the table with the next place, or the refusal.
-#[derive(Drop)]
+#[derive(Clone, Copy)]
 pub enum StateRead {
     Read(State, Cursor),
     Refused(Refusal),
@@ -340,7 +340,7 @@ fn read_transitions(
 }
 
 // The numbers before the ranks.
-#[derive(Drop)]
+#[derive(Clone, Copy)]
 pub struct Header {
     pub arithmetic: u32,
     pub states: usize,
@@ -348,7 +348,7 @@ pub struct Header {
     pub next: Cursor,
 }
 
-#[derive(Drop)]
+#[derive(Clone, Copy)]
 pub enum HeaderRead {
     Read(Header),
     Refused(Refusal),
@@ -390,7 +390,7 @@ fn read_header(table: &[u8]) -> HeaderRead
 }
 
 // How many transitions there are, or the refusal.
-#[derive(Drop)]
+#[derive(Clone, Copy)]
 pub enum BodyRead {
     Count(usize),
     Refused(Refusal),
@@ -458,7 +458,7 @@ fn read_body(
 }
 
 // The answer of the reader, and the numbers of the table that it read; they are 0 if it is refused.
-#[derive(Drop)]
+#[derive(Clone, Copy)]
 pub struct Outcome {
     pub answer: Answer,
     pub arithmetic: u32,
@@ -510,7 +510,7 @@ fn fill(
 }
 
 // A table read from bytes: done with the number of states, or refused; the record counts only if it is done.
-#[derive(Drop)]
+#[derive(Clone, Copy)]
 pub struct Reading {
     pub answer: Answer,
     pub table: TableRecord,

@@ -8,7 +8,7 @@ ghost use Rattle.trees.specs.Read.{tree_read};
 use answers::Refusal;
 
 // What the bytes are: a tree of so many nodes, or why not.
-#[derive(Drop)]
+#[derive(Clone, Copy)]
 pub enum TreeRead {
     Nodes(usize),
     Refused(Refusal),

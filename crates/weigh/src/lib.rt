@@ -21,7 +21,7 @@ use tables::TableRecord;
 use trees::TreeRead;
 
 // Done with the number of nodes, and the tree's weight; or refused, with weight 0 and none given.
-#[derive(Drop)]
+#[derive(Clone, Copy)]
 pub struct Weighing {
     pub answer: Answer,
     pub weight: i64,
@@ -129,7 +129,7 @@ fn weigh_nodes<'a>(
 }
 
 // The row of a node: its offset, its rank, where its children stand on the stack, and which transitions are its symbol's.
-#[derive(Drop)]
+#[derive(Clone, Copy)]
 struct Row {
     at: usize,
     rank: usize,
