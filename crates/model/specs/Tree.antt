@@ -1,5 +1,5 @@
 -- Trees over the symbols of a table, and how a tree is written (document 01, "Bytes").
-use Rattle.std.specs.Prelude.{ℕ, suc, ◌+◌, ◌<◌, ◌≡◌, List, [], ◌∷◌, ◌++◌, length, get_or}
+use Rattle.std.specs.Prelude.{ℕ, suc, ◌<◌, ◌≡◌, List, [], ◌∷◌, ◌++◌, length, get_or}
 
 -- a tree is a symbol with its child trees, left to right
 mutual

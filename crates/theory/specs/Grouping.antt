@@ -23,6 +23,7 @@ without_few E k (x ∷ xs) = go (E.same k x) (without_few E k xs)
     go false h = omega arith
 
 pub without_fewer : {K : Type 0} (E : Equality K) (k : K) (l : List K) → Memᴰ k l → length (without E k l) < length l
+without_fewer E k [] m = elim m [ ]
 without_fewer E k (x ∷ xs) (Memᴰ.head e) = rw (true_of (E.same k x) (equal_same E k x e)) (omega (arith, without_few E k xs))
 without_fewer E k (x ∷ xs) (Memᴰ.tail m) = go (E.same k x) (without_fewer E k xs m)
   where
@@ -31,6 +32,7 @@ without_fewer E k (x ∷ xs) (Memᴰ.tail m) = go (E.same k x) (without_fewer E 
     go false h = omega arith
 
 pub without_member : {K : Type 0} (E : Equality K) (k j : K) (l : List K) → E.same k j ≡ false → Memᴰ j l → Memᴰ j (without E k l)
+without_member E k j [] n m = elim m [ ]
 without_member E k j (x ∷ xs) n (Memᴰ.head e) = let f : E.same k x ≡ false = rw e at n in rw f (Memᴰ.head e)
 without_member E k j (x ∷ xs) n (Memᴰ.tail m) = go (E.same k x) (without_member E k j xs n m)
   where

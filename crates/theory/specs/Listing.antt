@@ -40,6 +40,7 @@ module _ {X K W : Type 0} (E : Equality K) (O : Order K) (key : X → K) (value 
   listed_below k (x ∷ xs) r = listed_skip x xs k (under_differs (key x) k r.0) ∙ listed_below k xs (rising_above k (key x) r.0 xs r.1)
 
   pub rising_member : (k : K) (xs : List X) → Rising k xs → {x : X} → Memᴰ x xs → T (O.under k (key x))
+  rising_member k [] r m = elim m [ ]
   rising_member k (x ∷ xs) r (Memᴰ.head e) = subst (λ (y : X). T (O.under k (key y))) (sym e) r.0
   rising_member k (x ∷ xs) r {x = y} (Memᴰ.tail m) = O.under_trans k (key x) (key y) r.0 (rising_member (key x) xs r.1 m)
 
@@ -48,6 +49,7 @@ module _ {X K W : Type 0} (E : Equality K) (O : Order K) (key : X → K) (value 
 
   -- an entry is what is listed for its key
   pub listed_member : (k : K) (xs : List X) → Rising k xs → {x : X} → Memᴰ x xs → listed xs (key x) ≡ value x
+  listed_member k [] r m = elim m [ ]
   listed_member k (x ∷ xs) r (Memᴰ.head e) = subst (λ (y : X). listed (x ∷ xs) (key y) ≡ value y) (sym e) (listed_first x xs)
   listed_member k (x ∷ xs) r {x = y} (Memᴰ.tail m) =
       listed_skip x xs (key y) (later_differs x y (rising_member (key x) xs r.1 m)) ∙ listed_member (key x) xs r.1 m

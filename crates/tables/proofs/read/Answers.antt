@@ -9,8 +9,7 @@ use Rattle.tables.specs.Record.{columns}
 use Rattle.tables.specs.Steps.{OutcomeIs, ReadingIs}
 use Rattle.tables.specs.declared.Outcome.{Outcome}
 use Rattle.tables.proofs.Blank.{blank_small, blank_long}
-use Rattle.tables.proofs.read.Statement.{statement}
-use Rattle.tables.proofs.read.Tie as tie
+use Rattle.tables.proofs.read.Goals as goal
 
 outcome-reading : (x : Found Table) (ranks finals symbol children target code : List ℕ) (o : Outcome) → OutcomeIs x finals (columns ranks symbol children target code) o →
     ReadingIs x (record {
@@ -32,13 +31,10 @@ outcome-reading : (x : Found Table) (ranks finals symbol children target code : 
 outcome-reading (found X end) ranks finals symbol children target code o is = (is.0, record { table = is.1; symbols = is.2 })
 outcome-reading (refused refusal) ranks finals symbol children target code o is = is
 
-fill-requires : tie.Need-fill-requires
-fill-requires c κs =
+pub fill-outcome-requires : goal.fill-outcome-requires
+fill-outcome-requires c =
     (blank_small, length-replicate {A = ℕ} 256 0, blank_long)
 
-returns : tie.Need-returns
+pub returns : goal.returns
 returns c =
-    outcome-reading (table_read c.before.before.before.before.before.before.before.before.args.table.now) _ _ _ _ _ _ c.fill.result c.fill.ensures
-
-pub read_spec : {M : Type 1} → statement M
-read_spec = tie.close (tie.spec fill-requires returns)
+    outcome-reading (table_read c.args.table.now) _ _ _ _ _ _ c.fill-outcome.result c.fill-outcome.ensures
