@@ -5,8 +5,13 @@ use mathlib.Core.Path.{◌≡◌, sym, ap, ◌∙◌}
 use native.Mathlib.Omega.{arith}
 use lib.ListN.{get_or}
 use Rattle.tables.proofs.Order.{order_by_symbol, order_by_children, rests, rests_agree, rests_differ, rests_end}
+use Rattle.tables.proofs.ascends.Lts as lts
+use Rattle.tables.proofs.ascends.Tie as tie
+use Rattle.tables.proofs.ascends.Reads as reads
 use Rattle.tables.proofs.ascends.Goals as goal
-use Rattle.tables.proofs.ascends.Goals.{In-loop-k}
+
+abbrev In-loop-k : Type 0
+In-loop-k = lts.In-loop tie.the-claims reads.Pre reads.Post goal.the-invariant-loop-k goal.the-decreases-loop-k
 
 -- what every turn of the loop knows: the rank is at most 4, and there is a transition before
 turn : (c : In-loop-k) → (c.wide-rank.result ≤ 4) × (c.args.j - 1 + 1 ≡ c.args.j) × (c.args.j < 4000)
@@ -35,17 +40,17 @@ loop-k-init c =
 
 pub bounds-children-i : goal.bounds-children-i
 bounds-children-i c =
-    let t = turn c.before in omega arith
+    let t = turn c.before.before in omega arith
 
 pub bounds-children-j : goal.bounds-children-j
 bounds-children-j c =
-    let t = turn c.before.before in omega arith
+    let t = turn c.before.before.before in omega arith
 
 pub returns-then-above-child : goal.returns-then-above-child
 returns-then-above-child c =
     let a = c.args in
     let l = c.loop-k in
-    let t = turn c.before.before.before.before in
+    let t = turn c.before.before.before.before.before in
     let long = c.requires.4 in
     sym (rests_differ a.children.now ((a.j - 1) * 4) (a.j * 4) c.wide-rank.result l.k (get_or a.target.now (a.j - 1) 0) (get_or a.target.now a.j 0) c.loop-k-test.true (omega arith) (omega arith) c.if-above-child.true) ∙ l.invariant.1
 
@@ -53,7 +58,7 @@ pub loop-k-preserved : goal.loop-k-preserved
 loop-k-preserved c =
     let a = c.args in
     let l = c.loop-k in
-    let t = turn c.before.before.before.before in
+    let t = turn c.before.before.before.before.before in
     let long = c.requires.4 in
     (omega (arith, c.loop-k-test.true), sym (rests_agree a.children.now ((a.j - 1) * 4) (a.j * 4) c.wide-rank.result l.k (get_or a.target.now (a.j - 1) 0) (get_or a.target.now a.j 0) c.loop-k-test.true (omega arith) (omega arith) c.if-above-child.false) ∙ l.invariant.1)
 

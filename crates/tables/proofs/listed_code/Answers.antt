@@ -8,15 +8,13 @@ use Rattle.tables.proofs.listed_code.Goals as goal
 pub returns-then-n-eq0 : goal.returns-then-n-eq0
 returns-then-n-eq0 c =
     let r = c.number in
-    let g = c.n-1.given in
-    rw (sym r.ensures ∙ g.1, le-ltb 0 g.0.0 (omega arith))
+    rw (sym r.ensures ∙ c.in-Number.is, le-ltb 0 c.in-Number.n (omega arith))
 
 pub returns-else-n-eq0 : goal.returns-else-n-eq0
 returns-else-n-eq0 c =
     let r = c.number in
-    let g = c.n-1.given in
     let h = c.if-n-eq0.false in
-    rw (sym r.ensures ∙ g.1, lt-ltb 0 g.0.0 (omega arith))
+    rw (sym r.ensures ∙ c.in-Number.is, lt-ltb 0 c.in-Number.n (omega arith))
 
 pub returns-in-Refused : goal.returns-in-Refused
 returns-in-Refused c =

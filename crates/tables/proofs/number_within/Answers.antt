@@ -6,18 +6,15 @@ use Rattle.tables.proofs.number_within.Goals as goal
 
 pub returns-then-n-low : goal.returns-then-n-low
 returns-then-n-low c =
-    let g = c.n-1.given in
-    rw (sym c.number.ensures ∙ g.1, lt-leb _ g.0.0 c.if-n-low.true)
+    rw (sym c.number.ensures ∙ c.in-Number.is, lt-leb _ c.in-Number.n c.if-n-low.true)
 
 pub returns-then-high-n : goal.returns-then-high-n
 returns-then-high-n c =
-    let g = c.n-1.given in
-    rw (sym c.number.ensures ∙ g.1, le-leb _ g.0.0 c.if-n-low.false, lt-leb g.0.0 _ c.if-high-n.true)
+    rw (sym c.number.ensures ∙ c.in-Number.is, le-leb _ c.in-Number.n c.if-n-low.false, lt-leb c.in-Number.n _ c.if-high-n.true)
 
 pub returns-else-high-n : goal.returns-else-high-n
 returns-else-high-n c =
-    let g = c.n-1.given in
-    rw (sym c.number.ensures ∙ g.1, le-leb _ g.0.0 c.if-n-low.false, le-leb g.0.0 _ c.if-high-n.false)
+    rw (sym c.number.ensures ∙ c.in-Number.is, le-leb _ c.in-Number.n c.if-n-low.false, le-leb c.in-Number.n _ c.if-high-n.false)
 
 pub returns-in-Refused : goal.returns-in-Refused
 returns-in-Refused c =

@@ -10,7 +10,9 @@ use Rattle.tables.proofs.read_above.Lts as lts
 use Rattle.tables.proofs.read_above.Tie as tie
 use Rattle.tables.proofs.read_above.Reads as reads
 use Rattle.tables.proofs.read_above.Goals as goal
-use Rattle.tables.proofs.read_above.Goals.{In-Next}
+
+abbrev In-Next : Type 0
+In-Next = lts.Past-After-known_told tie.the-claims reads.Pre reads.Post
 
 abbrev Start : Type 0
 Start = lts.Start tie.the-claims reads.Pre reads.Post
@@ -20,31 +22,28 @@ abbrev lent : (c : Start) → Columns
 lent c = columns c.args.ranks.now c.args.symbol.now c.args.children.now c.args.target.now c.args.code.now
 
 abbrev stored : (c : In-Next) → Columns
-stored c = columns c.args.ranks.now c.read_transition.new.1.1.1.1.1.1.0 c.read_transition.new.1.1.1.1.1.1.1.0 c.read_transition.new.1.1.1.1.1.1.1.1.0 c.read_transition.new.1.1.1.1.1.1.1.1.1.0
+stored c = columns c.args.ranks.now c.read_transition.new.symbol c.read_transition.new.children c.read_transition.new.target c.read_transition.new.code
 
 went : (c : In-Next) →
     let a = c.args in
-    RowWent (transition_at a.table.now (take a.symbols a.ranks.now) a.states a.place.at) a.j (lent c.before.before.before.before.before.before.before.before.before.before) (stored c) c.in-Next.next
+    RowWent (transition_at a.table.now (take a.symbols a.ranks.now) a.states a.place.at) a.j (lent c.before.before.before.before.before.before.before) (stored c) c.in-Next.next
 went c =
     row_next _ c.args.j _ _ c.read_transition.result _ c.read_transition.ensures c.in-Next.is
 
 pub ascends-requires : goal.ascends-requires
 ascends-requires c =
-    let s = c.before.before.before.before.before.before.before.before.before.before.before.before in
-    let w = went c.before.before.before.before in
-    (s.requires.2, w.known, w.long.ranks, w.long.symbol, w.long.children, w.long.target, s.requires.3)
+    let w = went c.before in
+    (c.requires.2, w.known, w.long.ranks, w.long.symbol, w.long.children, w.long.target, c.requires.3)
 
 pub returns-then-not-ascends : goal.returns-then-not-ascends
 returns-then-not-ascends c =
-    let s = c.before.before.before.before.before.before.before.before.before.before.before.before.before.before in
-    let a = s.args in
-    row_not_above a.table.now (take a.symbols a.ranks.now) a.states a.place.at a.j (lent s) (stored c.before.before.before.before.before.before) _ (went c.before.before.before.before.before.before) s.requires.3 (sym c.ascends.ensures ∙ not-true c.ascends.result c.if-not-ascends.true-raw)
+    let a = c.args in
+    row_not_above a.table.now (take a.symbols a.ranks.now) a.states a.place.at a.j (lent c.before.before.before.before.before.before.before.before.before.before) (stored c.before.before.before) _ (went c.before.before.before) c.requires.3 (sym c.ascends.ensures ∙ not-true c.ascends.result c.if-not-ascends.true-raw)
 
 pub returns-else-not-ascends : goal.returns-else-not-ascends
 returns-else-not-ascends c =
-    let s = c.before.before.before.before.before.before.before.before.before.before.before.before.before.before in
-    let a = s.args in
-    row_above a.table.now (take a.symbols a.ranks.now) a.states a.place.at a.j (lent s) (stored c.before.before.before.before.before.before) _ (went c.before.before.before.before.before.before) s.requires.3 (sym c.ascends.ensures ∙ not-false c.ascends.result c.if-not-ascends.false-raw)
+    let a = c.args in
+    row_above a.table.now (take a.symbols a.ranks.now) a.states a.place.at a.j (lent c.before.before.before.before.before.before.before.before.before.before) (stored c.before.before.before) _ (went c.before.before.before) c.requires.3 (sym c.ascends.ensures ∙ not-false c.ascends.result c.if-not-ascends.false-raw)
 
 pub returns-in-Refused : goal.returns-in-Refused
 returns-in-Refused c =

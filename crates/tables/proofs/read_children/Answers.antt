@@ -6,8 +6,13 @@ use native.Mathlib.Omega.{arith}
 use Rattle.format.specs.Read.{found, one_of}
 use Rattle.tables.specs.Steps.{state_found}
 use Rattle.tables.proofs.Filling.{filling_starts, filling_goes_on, filling_ends, filling_refused}
+use Rattle.tables.proofs.read_children.Lts as lts
+use Rattle.tables.proofs.read_children.Tie as tie
+use Rattle.tables.proofs.read_children.Reads as reads
 use Rattle.tables.proofs.read_children.Goals as goal
-use Rattle.tables.proofs.read_children.Goals.{In-Read}
+
+abbrev In-Read : Type 0
+In-Read = lts.Past-After-known_told tie.the-claims reads.Pre reads.Post goal.the-invariant-loop-i goal.the-decreases-loop-i
 
 -- what the reader of one child found
 child-found : (c : In-Read) →
@@ -36,7 +41,7 @@ loop-i-preserved c =
     let a = c.args in
     let l = c.loop-i in
     filling_goes_on (one_of a.table.now a.states) a.rank a.from a.place.at a.children.now l.children l.i l.next.at (a.from + l.i) _ _
-    l.invariant c.loop-i-test.true (omega (arith, c.requires)) refl (child-found c.before)
+    l.invariant c.loop-i-test.true (omega (arith, c.requires)) refl (child-found c.before.before)
 
 pub returns : goal.returns
 returns c =

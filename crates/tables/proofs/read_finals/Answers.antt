@@ -5,8 +5,13 @@ use mathlib.Core.Path.{◌≡◌, sym, ap, ◌∙◌}
 use native.Mathlib.Omega.{arith}
 use Rattle.format.specs.Read.{found, as_found, any}
 use Rattle.tables.proofs.Filling.{filling_starts, filling_goes_on, filling_ends, filling_refused}
+use Rattle.tables.proofs.read_finals.Lts as lts
+use Rattle.tables.proofs.read_finals.Tie as tie
+use Rattle.tables.proofs.read_finals.Reads as reads
 use Rattle.tables.proofs.read_finals.Goals as goal
-use Rattle.tables.proofs.read_finals.Goals.{In-Number}
+
+abbrev In-Number : Type 0
+In-Number = lts.Past-After-known_told tie.the-claims reads.Pre reads.Post goal.the-invariant-loop-i goal.the-decreases-loop-i
 
 -- what the number reader found
 code-found : (c : In-Number) →
@@ -30,7 +35,7 @@ loop-i-preserved c =
     let a = c.args in
     let l = c.loop-i in
     filling_goes_on (any a.table.now) a.states 0 a.place.at a.finals.now l.finals l.i l.next.at l.i _ _
-    l.invariant c.loop-i-test.true (omega (arith, c.requires)) (omega arith) (code-found c.before)
+    l.invariant c.loop-i-test.true (omega (arith, c.requires)) (omega arith) (code-found c.before.before)
 
 pub returns : goal.returns
 returns c =

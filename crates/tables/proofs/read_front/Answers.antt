@@ -10,31 +10,33 @@ use Rattle.tables.proofs.read_front.Lts as lts
 use Rattle.tables.proofs.read_front.Tie as tie
 use Rattle.tables.proofs.read_front.Reads as reads
 use Rattle.tables.proofs.read_front.Goals as goal
-use Rattle.tables.proofs.read_front.Goals.{In-Next-read_finals}
 
 abbrev In-Next : Type 0
-In-Next = lts.After-known_told tie.the-claims reads.Pre reads.Post
+In-Next = lts.Past-After-known_told tie.the-claims reads.Pre reads.Post
+
+abbrev In-Next-read_finals : Type 0
+In-Next-read_finals = lts.Past-After-known_told2 tie.the-claims reads.Pre reads.Post
 
 -- the ranks as they are read, and the array that holds them
 ranks-went : (c : In-Next) →
     let a = c.args in
-    Went (many (within a.table.now 0 4) a.header.symbols a.header.next.at) 0 a.ranks.now c.read_ranks.new.1.1.1.0 c.in-Next.next
+    Went (many (within a.table.now 0 4) a.header.symbols a.header.next.at) 0 a.ranks.now c.read_ranks.new.ranks c.in-Next.next
 ranks-went c =
     filled_next _ 0 c.args.ranks.now _ c.read_ranks.result _ c.read_ranks.ensures.0 c.in-Next.is
 
 ranks_found : (c : In-Next) →
     let a = c.args in
-    many (within a.table.now 0 4) a.header.symbols a.header.next.at ≡ found (take a.header.symbols c.read_ranks.new.1.1.1.0) c.in-Next.next.at
+    many (within a.table.now 0 4) a.header.symbols a.header.next.at ≡ found (take a.header.symbols c.read_ranks.new.ranks) c.in-Next.next.at
 ranks_found c =
     let a = c.args in
-    went_taken (within a.table.now 0 4) a.header.symbols a.header.next.at a.ranks.now c.read_ranks.new.1.1.1.0 _ (ranks-went c)
+    went_taken (within a.table.now 0 4) a.header.symbols a.header.next.at a.ranks.now c.read_ranks.new.ranks _ (ranks-went c)
 
 finals_found : (c : In-Next-read_finals) →
     let a = c.args in
-    many (any a.table.now) a.header.states c.in-Next.next.at ≡ found (take a.header.states c.read_finals.new.1.1.1.0) c.in-Next-read_finals.behind.at
+    many (any a.table.now) a.header.states c.in-Next.next.at ≡ found (take a.header.states c.read_finals.new.finals) c.in-Next-read_finals.behind.at
 finals_found c =
     let a = c.args in
-    went_taken (any a.table.now) a.header.states c.in-Next.next.at a.finals.now c.read_finals.new.1.1.1.0 _
+    went_taken (any a.table.now) a.header.states c.in-Next.next.at a.finals.now c.read_finals.new.finals _
     (filled_next _ 0 a.finals.now _ c.read_finals.result _ c.read_finals.ensures c.in-Next-read_finals.is)
 
 pub read_ranks-requires : goal.read_ranks-requires
@@ -48,12 +50,12 @@ read_finals-requires c =
 pub returns-in-Next-read_finals : goal.returns-in-Next-read_finals
 returns-in-Next-read_finals c =
     let a = c.args in
-    front_is a.table.now a.header c.requires.0 c.read_ranks.new.1.1.1.0 _ (ranks_found c.before.before.before.before.before.before.before) c.read_finals.new.1.1.1.0 _ (finals_found (goal.at.returns-in-Next-read_finals c).In-Next-read_finals) c.read_ranks.ensures.1 ((ranks-went c.before.before.before.before.before.before.before).long ∙ c.requires.2) c.number_within.result c.number_within.ensures
+    front_is a.table.now a.header c.requires.0 c.read_ranks.new.ranks _ (ranks_found c.before.before.before.before.before) c.read_finals.new.finals _ (finals_found c.before.before) c.read_ranks.ensures.1 ((ranks-went c.before.before.before.before.before).long ∙ c.requires.2) c.number_within.result c.number_within.ensures
 
 pub returns-in-Refused-read_finals : goal.returns-in-Refused-read_finals
 returns-in-Refused-read_finals c =
     let a = c.args in
-    no_finals a.table.now a.header c.requires.0 c.read_ranks.new.1.1.1.0 _ (ranks_found c.before.before.before.before.before.before) _ (filled_refused _ 0 a.finals.now _ c.read_finals.result _ c.read_finals.ensures c.in-Refused-read_finals.is)
+    no_finals a.table.now a.header c.requires.0 c.read_ranks.new.ranks _ (ranks_found c.before.before.before.before) _ (filled_refused _ 0 a.finals.now _ c.read_finals.result _ c.read_finals.ensures c.in-Refused-read_finals.is)
 
 pub returns-in-Refused : goal.returns-in-Refused
 returns-in-Refused c =

@@ -3,8 +3,16 @@
 use mathlib.Core.Path.{◌≡◌, sym, ap, ◌∙◌}
 use Rattle.format.specs.Read.{found, as_found, within}
 use Rattle.tables.proofs.Whole.{no_arithmetic, no_states, no_symbols}
+use Rattle.tables.proofs.read_header.Lts as lts
+use Rattle.tables.proofs.read_header.Tie as tie
+use Rattle.tables.proofs.read_header.Reads as reads
 use Rattle.tables.proofs.read_header.Goals as goal
-use Rattle.tables.proofs.read_header.Goals.{In-Number, In-Number-number_within}
+
+abbrev In-Number : Type 0
+In-Number = lts.Past-After-known_told tie.the-claims reads.Pre reads.Post
+
+abbrev In-Number-number_within : Type 0
+In-Number-number_within = lts.Past-After-known_told3 tie.the-claims reads.Pre reads.Post
 
 arithmetic-found : (c : In-Number) → within c.args.table.now 0 1 0 ≡ found c.in-Number.n c.in-Number.behind.at
 arithmetic-found c = sym c.number_within.ensures ∙ ap as_found c.in-Number.is
@@ -18,12 +26,12 @@ returns-in-Refused c =
 
 pub returns-in-Refused-number_within : goal.returns-in-Refused-number_within
 returns-in-Refused-number_within c =
-    no_states c.args.table.now _ _ (arithmetic-found (goal.at.returns-in-Refused-number_within c).In-Number) _ (sym c.number_within-2.ensures ∙ ap as_found c.in-Refused-number_within.is)
+    no_states c.args.table.now _ _ (arithmetic-found c.before.before.before) _ (sym c.number_within-2.ensures ∙ ap as_found c.in-Refused-number_within.is)
 
 pub returns-in-Number-number_within-2 : goal.returns-in-Number-number_within-2
 returns-in-Number-number_within-2 c =
-    record { second = _; third = _; arithmetic = arithmetic-found (goal.at.returns-in-Number-number_within-2 c).In-Number; states = states-found (goal.at.returns-in-Number-number_within-2 c).In-Number-number_within; symbols = sym c.number_within-3.ensures ∙ ap as_found c.in-Number-number_within-2.is }
+    record { second = _; third = _; arithmetic = arithmetic-found c.before.before.before.before.before; states = states-found c.before.before.before; symbols = sym c.number_within-3.ensures ∙ ap as_found c.in-Number-number_within-2.is }
 
 pub returns-in-Refused-number_within-2 : goal.returns-in-Refused-number_within-2
 returns-in-Refused-number_within-2 c =
-    no_symbols c.args.table.now _ _ (arithmetic-found (goal.at.returns-in-Refused-number_within-2 c).In-Number) _ _ (states-found (goal.at.returns-in-Refused-number_within-2 c).In-Number-number_within) _ (sym c.number_within-3.ensures ∙ ap as_found c.in-Refused-number_within-2.is)
+    no_symbols c.args.table.now _ _ (arithmetic-found c.before.before.before.before.before) _ _ (states-found c.before.before.before) _ (sym c.number_within-3.ensures ∙ ap as_found c.in-Refused-number_within-2.is)

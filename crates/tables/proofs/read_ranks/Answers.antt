@@ -6,8 +6,13 @@ use native.Mathlib.Omega.{arith}
 use Rattle.format.specs.Read.{found, as_found, within}
 use Rattle.tables.proofs.Filling.{filling_starts, filling_goes_on, filling_ends, filling_refused}
 use Rattle.tables.proofs.Bounds.{within_bounds, at_most_set}
+use Rattle.tables.proofs.read_ranks.Lts as lts
+use Rattle.tables.proofs.read_ranks.Tie as tie
+use Rattle.tables.proofs.read_ranks.Reads as reads
 use Rattle.tables.proofs.read_ranks.Goals as goal
-use Rattle.tables.proofs.read_ranks.Goals.{In-Number}
+
+abbrev In-Number : Type 0
+In-Number = lts.Past-After-known_told tie.the-claims reads.Pre reads.Post goal.the-invariant-loop-i goal.the-decreases-loop-i
 
 -- what the number reader found
 rank-found : (c : In-Number) →
@@ -21,7 +26,7 @@ loop-i-init c =
 
 pub overflow_cast-ranks : goal.overflow_cast-ranks
 overflow_cast-ranks c =
-    let small = within_bounds c.args.table.now c.loop-i.next.at 0 4 (rank-found (goal.at.overflow_cast-ranks c).In-Number) in
+    let small = within_bounds c.args.table.now c.loop-i.next.at 0 4 (rank-found c.before) in
     omega (arith, small.1)
 
 pub returns-in-Refused : goal.returns-in-Refused
@@ -37,9 +42,9 @@ pub loop-i-preserved : goal.loop-i-preserved
 loop-i-preserved c =
     let a = c.args in
     let l = c.loop-i in
-    let small = within_bounds a.table.now l.next.at 0 4 (rank-found c.before) in (
+    let small = within_bounds a.table.now l.next.at 0 4 (rank-found c.before.before) in (
       filling_goes_on (within a.table.now 0 4) a.symbols 0 a.place.at a.ranks.now l.ranks l.i l.next.at l.i _ _
-          l.invariant.0 c.loop-i-test.true (omega (arith, c.requires)) (omega arith) (rank-found c.before),
+          l.invariant.0 c.loop-i-test.true (omega (arith, c.requires)) (omega arith) (rank-found c.before.before),
       λ j. at_most_set l.ranks l.i _ j 4 (l.invariant.1 j) small.1,
     )
 

@@ -9,13 +9,13 @@ use Rattle.tables.proofs.read_state.Goals as goal
 pub overflow_cast-result : goal.overflow_cast-result
 overflow_cast-result c =
     let a = c.args in
-    let e = sym c.number_of_lem.ensures ∙ ap as_found c.in-Number.is in
+    let e = sym c.number_of.ensures ∙ ap as_found c.in-Number.is in
     omega (arith, one_of_below a.table.now a.place.at a.states e, c.requires)
 
 pub returns-in-Number : goal.returns-in-Number
 returns-in-Number c =
-    sym (ap as_found c.in-Number.is) ∙ c.number_of_lem.ensures
+    sym (ap as_found c.in-Number.is) ∙ c.number_of.ensures
 
 pub returns-in-Refused : goal.returns-in-Refused
 returns-in-Refused c =
-    sym (ap as_found c.in-Refused.is) ∙ c.number_of_lem.ensures
+    sym (ap as_found c.in-Refused.is) ∙ c.number_of.ensures

@@ -9,7 +9,7 @@ use Rattle.tables.proofs.read_target_and_code.Reads as reads
 use Rattle.tables.proofs.read_target_and_code.Goals as goal
 
 abbrev In-Read : Type 0
-In-Read = lts.After-known_told tie.the-claims reads.Pre reads.Post
+In-Read = lts.Past-After-known_told tie.the-claims reads.Pre reads.Post
 
 target_found : (c : In-Read) →
     let a = c.args in
@@ -22,7 +22,7 @@ returns-in-Number c =
 
 pub returns-in-Refused-listed_code : goal.returns-in-Refused-listed_code
 returns-in-Refused-listed_code c =
-    rw (target_found c.before.before.before.before.before, sym c.listed_code.ensures ∙ ap as_found c.in-Refused-listed_code.is) refl
+    rw (target_found c.before.before.before.before, sym c.listed_code.ensures ∙ ap as_found c.in-Refused-listed_code.is) refl
 
 pub returns-in-Refused : goal.returns-in-Refused
 returns-in-Refused c =

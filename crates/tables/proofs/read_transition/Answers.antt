@@ -11,10 +11,15 @@ use Rattle.tables.proofs.read_transition.Lts as lts
 use Rattle.tables.proofs.read_transition.Tie as tie
 use Rattle.tables.proofs.read_transition.Reads as reads
 use Rattle.tables.proofs.read_transition.Goals as goal
-use Rattle.tables.proofs.read_transition.Goals.{After-wide-rank, In-Number}
+
+abbrev In-Number : Type 0
+In-Number = lts.Past-After-known_told tie.the-claims reads.Pre reads.Post
 
 abbrev In-Next : Type 0
-In-Next = lts.After-known_told2 tie.the-claims reads.Pre reads.Post
+In-Next = lts.Past-After-known_told2 tie.the-claims reads.Pre reads.Post
+
+abbrev After-wide-rank : Type 0
+After-wide-rank = lts.After-wide tie.the-claims reads.Pre reads.Post
 
 abbrev Start : Type 0
 Start = lts.Start tie.the-claims reads.Pre reads.Post
@@ -26,7 +31,7 @@ few c = omega (arith, c.requires.1, c.requires.4.ranks)
 symbol-found : (c : In-Number) →
     let a = c.args in
     one_of a.table.now a.symbols a.place.at ≡ found c.in-Number.n c.in-Number.next.at
-symbol-found c = sym c.number_of_lem.ensures ∙ ap as_found c.in-Number.is
+symbol-found c = sym c.number_of.ensures ∙ ap as_found c.in-Number.is
 
 symbol-small : (c : In-Number) → c.in-Number.n < 128
 symbol-small c =
@@ -39,34 +44,34 @@ rank_small c = omega (arith, c.requires.3 c.in-Number.n, c.wide-rank.ensures.0)
 -- when the children are read
 children-went : (c : In-Next) →
     let a = c.args in
-    Went (many (one_of a.table.now a.states) c.wide-rank.result c.in-Number.next.at) (a.j * 4) a.children.now c.read_children.new.1.1.1.1.1.0 c.in-Next.behind
+    Went (many (one_of a.table.now a.states) c.wide-rank.result c.in-Number.next.at) (a.j * 4) a.children.now c.read_children.new.children c.in-Next.behind
 children-went c =
     let a = c.args in
     filled_next _ (a.j * 4) a.children.now _ c.read_children.result _ c.read_children.ensures c.in-Next.is
 
 pub overflow_cast-symbol : goal.overflow_cast-symbol
 overflow_cast-symbol c =
-    omega (arith, symbol-small (goal.at.overflow_cast-symbol c).In-Number)
+    omega (arith, symbol-small c.before)
 
 pub bounds-ranks-n : goal.bounds-ranks-n
 bounds-ranks-n c =
-    symbol-small c.before
+    symbol-small c.before.before.before
 
 pub read_children-requires : goal.read_children-requires
 read_children-requires c =
-    (c.requires.0, omega (arith, rank_small (goal.at.read_children-requires c).After-wide-rank, c.requires.2), c.requires.4.children)
+    (c.requires.0, omega (arith, rank_small c.before.before, c.requires.2), c.requires.4.children)
 
 pub returns-in-Next : goal.returns-in-Next
 returns-in-Next c =
     let a = c.args in
-    row_read a.table.now a.ranks.now a.symbol.now a.children.now _ a.target.now a.code.now a.symbols a.states a.place.at _ _ c.wide-rank.result a.j _ (few c.before.before.before.before.before.before.before.before.before.before.before.before.before.before.before.before) (symbol-found c.before.before.before.before.before.before.before.before.before.before.before) c.wide-rank.ensures.0 (symbol-small c.before.before.before.before.before.before.before.before.before.before.before) (children-went c.before.before.before.before) c.requires.2 c.requires.4 _ _ c.read_target_and_code.result c.read_target_and_code.ensures
+    row_read a.table.now a.ranks.now a.symbol.now a.children.now _ a.target.now a.code.now a.symbols a.states a.place.at _ _ c.wide-rank.result a.j _ (few c.before.before.before.before.before.before.before.before.before.before.before.before.before.before) (symbol-found c.before.before.before.before.before.before.before.before.before.before.before) c.wide-rank.ensures.0 (symbol-small c.before.before.before.before.before.before.before.before.before.before.before) (children-went c.before.before.before.before) c.requires.2 c.requires.4 _ _ c.read_target_and_code.result c.read_target_and_code.ensures
 
 pub returns-in-Refused-read_children : goal.returns-in-Refused-read_children
 returns-in-Refused-read_children c =
     let a = c.args in
-    rw (no_children a.table.now a.ranks.now a.symbols a.states a.place.at (few c.before.before.before.before.before.before.before.before.before.before.before.before.before) _ _ c.wide-rank.result (symbol-found c.before.before.before.before.before.before.before.before) c.wide-rank.ensures.0 _ (filled_refused _ (a.j * 4) a.children.now _ c.read_children.result _ c.read_children.ensures c.in-Refused-read_children.is))
+    rw (no_children a.table.now a.ranks.now a.symbols a.states a.place.at (few c.before.before.before.before.before.before.before.before.before.before.before) _ _ c.wide-rank.result (symbol-found c.before.before.before.before.before.before.before.before) c.wide-rank.ensures.0 _ (filled_refused _ (a.j * 4) a.children.now _ c.read_children.result _ c.read_children.ensures c.in-Refused-read_children.is))
 
 pub returns-in-Refused : goal.returns-in-Refused
 returns-in-Refused c =
     let a = c.args in
-    rw (no_symbol a.table.now a.ranks.now a.symbols a.states a.place.at (few c.before.before.before.before.before.before) _ (sym c.number_of_lem.ensures ∙ ap as_found c.in-Refused.is))
+    rw (no_symbol a.table.now a.ranks.now a.symbols a.states a.place.at (few c.before.before.before.before) _ (sym c.number_of.ensures ∙ ap as_found c.in-Refused.is))
