@@ -1,7 +1,7 @@
 -- The promise of pick (document 01, "Pick").
 use Rattle.std.specs.Prelude.{ℕ, ◌+◌, ◌≡◌, Bool, true, false, cond, List, [], length, ltb, eqb}
 use Rattle.std.proofs.Common.{sym, ap₂, ◌∙◌}
-use denote.Ref.{MutBor, at_last}
+use Rattle.std.specs.Borrow.{Bor}
 use Rattle.answers.specs.Numbers.{code_of, refusal_figure}
 use Rattle.model.specs.Table.{Table}
 use Rattle.format.specs.Read.{Found, found, refused, table_read}
@@ -52,18 +52,18 @@ pub record Piece : Type 0 where
   pub begins : ℕ × ℕ
   pub holds : List ℕ
 
-abbrev pub piece_of : MutBor (List ℕ) → Piece
+abbrev pub piece_of : Bor (List ℕ) → Piece
 piece_of r = record { begins = r.ref_ptr; holds = r.now }
 
 -- that same piece of memory; on refusal an empty piece at the start of the first table
-abbrev pub picked_piece : Choice → MutBor (List ℕ) → MutBor (List ℕ) → Piece
+abbrev pub picked_piece : Choice → Bor (List ℕ) → Bor (List ℕ) → Piece
 picked_piece First first second = piece_of first
 picked_piece Second first second = piece_of second
-picked_piece (RefusedFirst refusal) first second = piece_of (at_last first [])
-picked_piece (RefusedSecond refusal) first second = piece_of (at_last first [])
+picked_piece (RefusedFirst refusal) first second = piece_of (record { ref_ptr = first.ref_ptr; now = [] })
+picked_piece (RefusedSecond refusal) first second = piece_of (record { ref_ptr = first.ref_ptr; now = [] })
 
 -- any two pieces, and any two answers, that the promises allow are equal
-pub pick_decided : (first second : MutBor (List ℕ)) (p q : Piece) → p ≡ picked_piece (picked first.now second.now) first second
+pub pick_decided : (first second : Bor (List ℕ)) (p q : Piece) → p ≡ picked_piece (picked first.now second.now) first second
     → q ≡ picked_piece (picked first.now second.now) first second → p ≡ q
 pick_decided first second p q e f = e ∙ sym f
 

@@ -68,7 +68,7 @@ impl BlockList {
         ensures { room.new ≡ take states self.list ++ drop states room.old }
     {
         let list = self.list;
-        bytes::copy(&list[..states], room);
+        room[..states].copy_from_slice(&list[..states]);
     }
 }
 

@@ -1,0 +1,28 @@
+-- `partition::members::count_dirty` meets its contract. The invariant: the dirty states below q are counted. Assumes nothing.
+use Prim.Native.Nat.{◌-◌}
+use mathlib.Core.Logic.{⊎_elim}
+use mathlib.Core.Path.{◌≡◌, sym}
+use native.Mathlib.Omega.{arith}
+use Rattle.partition.proofs.Counting.{counting_dirty, counting_clean, count_few, count_none}
+use Rattle.partition.proofs.members.count_dirty.Goals as goal
+
+pub loop-q-init : goal.loop-q-init
+loop-q-init c = (c.requires.1, sym (count_none c.args.dirty.now c.args.first c.requires.2))
+
+pub overflow_add-count : goal.overflow_add-count
+overflow_add-count c = omega (arith, count_few c.args.dirty.now c.loop-q.q)
+
+pub loop-q-preserved : goal.loop-q-preserved
+loop-q-preserved c =
+    let dirty = c.args.dirty.now in
+    let l = c.loop-q in
+    ⊎_elim
+    (λ w. (omega arith, omega (arith, counting_dirty dirty l.q w.0.taken)))
+    (λ w. (omega arith, omega (arith, counting_clean dirty l.q w.0.left)))
+    c.if-dirty-q.branch
+
+pub returns : goal.returns
+returns c =
+    let l = c.loop-q in
+    let done : l.q ≡ c.args.states = omega (arith, c.loop-q-test.false) in
+    rw done at l.invariant.1
