@@ -3,9 +3,9 @@
 
 #![tactic(auto)]
 
-use libc::STDOUT_FILENO;
+use std::io;
 
-fn main() {
+fn main(rt: HostRuntime) -> io::Result<()> {
     // document 01's table A, its backward collapse, and A with its last code changed
     let a =
         b"\x00\x03\x02\x00\x01\x00\x00\x01\x04\x00\x00\x03\x00\x01\x03\x01\x00\x02\x05\x01\x01\x02\x07";
@@ -20,48 +20,38 @@ fn main() {
     // A's first byte padded, and an arithmetic that is too large
     let padded = b"\x80\x00\x03";
     let large = b"\xff\xff\xff\xff\x10";
-    show(a, collapsed);
-    show(collapsed, a);
-    show(a, other);
-    show(other, a);
-    show(a, shorter);
-    show(shorter, a);
-    show(broken, a);
-    show(a, broken);
-    show(broken, cut);
-    show(a, cut);
-    show(a, b"");
-    show(padded, large);
-    show(large, padded);
-    show(a, padded);
-    show(a, large);
+    show(&rt, a, collapsed)?;
+    show(&rt, collapsed, a)?;
+    show(&rt, a, other)?;
+    show(&rt, other, a)?;
+    show(&rt, a, shorter)?;
+    show(&rt, shorter, a)?;
+    show(&rt, broken, a)?;
+    show(&rt, a, broken)?;
+    show(&rt, broken, cut)?;
+    show(&rt, a, cut)?;
+    show(&rt, a, b"")?;
+    show(&rt, padded, large)?;
+    show(&rt, large, padded)?;
+    show(&rt, a, padded)?;
+    show(&rt, a, large)
 }
 
-fn show<'a>(first: &'a [u8], second: &'a [u8]) {
+fn show<'a>(rt: &impl Print, first: &'a [u8], second: &'a [u8]) -> io::Result<()> {
     let piece = calls::pick(first, second);
     let answer = calls::pick_answer(first, second);
-    io::write_all(STDOUT_FILENO, b"code ");
-    io::print_decimal(STDOUT_FILENO, answer.code as u64);
-    io::write_all(STDOUT_FILENO, b" figure ");
-    io::print_decimal(STDOUT_FILENO, answer.figure as u64);
-    io::write_all(STDOUT_FILENO, b" piece ");
-    io::print_decimal(STDOUT_FILENO, piece.len() as u64);
-    io::write_all(STDOUT_FILENO, b" sum ");
-    io::print_decimal(STDOUT_FILENO, sum(piece));
-    io::write_all(STDOUT_FILENO, b"\n");
+    let code = answer.code;
+    let figure = answer.figure;
+    let length = piece.len();
+    let total = sum(piece);
+    println!(rt; "code {code} figure {figure} piece {length} sum {total}")
 }
 
 // The bytes summed, modulo 2^32.
 fn sum(piece: &[u8]) -> u64 {
     let mut total: u32 = 0;
-    let mut i = 0;
-    while i < piece.len() {
-        total = std::num::wrapping_add_u32(total, wide(piece[i]));
-        i += 1;
+    for byte in piece {
+        total = total.wrapping_add(u32::from(*byte));
     }
-    total as u64
-}
-
-fn wide(byte: u8) -> u32 {
-    byte as u32
+    u64::from(total)
 }

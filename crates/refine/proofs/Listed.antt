@@ -1,7 +1,7 @@
 -- The lists of the index: each use of a state stands in the state's region, and each number there is a use.
 use Prim.Native.Nat.{ℕ, zero, suc, ◌+◌, ◌-◌, ◌≤◌, ◌<◌}
 use mathlib.Core.Bool.{true}
-use mathlib.Core.List.{List, ◌∷◌, Memᴰ}
+use mathlib.Core.List.{List, [], ◌∷◌, Memᴰ}
 use mathlib.Core.Path.{◌≡◌, refl, sym, ap, ◌∙◌, subst}
 use native.Mathlib.Decide.{dec_lt}
 use native.Mathlib.Omega.{arith}
@@ -20,6 +20,7 @@ use Rattle.refine.proofs.Known.{IndexOf}
 
 -- where a member stands
 met_at : (us : List ℕ) {u : ℕ} → Memᴰ u us → (m : ℕ) × (m < length us) × (get_or us m 0 ≡ u)
+met_at [] {u = u} x = elim x [ ]
 met_at (v ∷ us) (Memᴰ.head e) = (0, omega arith, sym e)
 met_at (v ∷ us) (Memᴰ.tail n) = let r = met_at us n in (suc r.0, omega (arith, r.1), r.2)
 

@@ -36,6 +36,7 @@ met-map f (Memᴰ.tail m) = Memᴰ.tail (met-map f m)
 
 met-flat_map : (f : ℕ → List ℕ) {x y : ℕ} (xs : List ℕ) → Memᴰ x xs → Memᴰ y (f x) → Memᴰ y (flat_map f xs)
 unfolding flat_map
+met-flat_map f {y = y} [] x3 m = elim x3 [ ]
 met-flat_map f (x ∷ xs) (Memᴰ.head e) m = Memᴰ.append_left (flat_map f xs) (rw e at m)
 met-flat_map f (x ∷ xs) (Memᴰ.tail n) m = Memᴰ.append_right (f x) (met-flat_map f xs n m)
 
@@ -63,6 +64,7 @@ each_chosen test P (u ∷ us) m = go (test u) (each_chosen test P us m.1)
 
 -- a number that passes the test is chosen
 pub met_chosen : (test : ℕ → Bool) {u : ℕ} (us : List ℕ) → Memᴰ u us → test u ≡ true → Memᴰ u (chosen test us)
+met_chosen test {u = u} [] x'' t = elim x'' [ ]
 met_chosen test (v ∷ us) (Memᴰ.head e) t = let here : test v ≡ true = rw (sym e) t in rw here (Memᴰ.head e)
 met_chosen test {u} (v ∷ us) (Memᴰ.tail m) t = go (test v) (met_chosen test us m t)
   where

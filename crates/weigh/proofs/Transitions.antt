@@ -7,7 +7,7 @@ use native.Mathlib.Omega.{arith}
 use native.Mathlib.Decide.{dec_le}
 use lib.Dec.{T, eqb, eqb→eq, ltb, ltb→lt}
 use lib.ListN.{get_or}
-use Rattle.model.specs.Table.{Transition, Ascending, lower}
+use Rattle.model.specs.Table.{Transition, Ascending, key, lower}
 use Rattle.theory.specs.Equality.{of_true}
 use Rattle.theory.specs.Semiring.{Semiring}
 use Rattle.theory.specs.Sum.{sum}
@@ -44,7 +44,7 @@ rising_from : (c : Columns) (before : List ℕ) (m k : ℕ) → Ascending before
 unfolding rows_from
 rising_from c before m zero up i j l n o = absurd (omega arith)
 rising_from c before m (suc k) up i j l n o =
-    go (dec_le (suc m) i) (dec_le (suc m) j) (rising_from c _ (suc m) k up.1 i j)
+    go (dec_le (suc m) i) (dec_le (suc m) j) (rising_from c (key (row_at c m)) (suc m) k up.1 i j)
     (above_first c (get_or c.symbol m 0) _ (suc m) k up.1 j)
   where
     go : Dec (suc m ≤ i) → Dec (suc m ≤ j) → (suc m ≤ i → i ≤ j → j < suc m + k → get_or c.symbol i 0 ≤ get_or c.symbol j 0)

@@ -1,6 +1,5 @@
 -- What the steps of weighing need and leave.
 use Rattle.std.specs.Prelude.{ℕ, ◌+◌, ◌*◌, ◌≤◌, ◌<◌, ◌≡◌, ◌⊎◌, List, ◌++◌, ℤ, length, get_or, take, drop}
-use Rattle.theory.specs.Arithmetic.{arithmetic}
 use Rattle.theory.specs.Weight.{weight}
 use Rattle.theory.specs.Sheet.{sheet}
 use Rattle.model.specs.Table.{Table, Proper}

@@ -38,7 +38,7 @@ summed : (c : After-sum) →
 summed c =
     let x = c.product_of-x in
     stands_sum c.args.arithmetic 16385 (omega arith) _ _ _ x.result c.requires.4 x.ensures c.sum.result
-    (rw (carried _ c.sum-arg-1.given, carried x.result x.type-inv, place c.before.before) at c.sum.ensures)
+    (rw (carried _ c.sum-arg-1.given, carried x.result x.type_inv, place c.before.before) at c.sum.ensures)
 
 pub product_of-x-requires : goal.product_of-x-requires
 product_of-x-requires c = (c.requires.0, c.requires.1)
@@ -58,7 +58,7 @@ slice_copy_out-sum c = inside c.before
 pub sum-requires : goal.sum-requires
 sum-requires c =
     let x = c.product_of-x in
-    rw (carried _ c.sum-arg-1.given, carried x.result x.type-inv, place c.before.before)
+    rw (carried _ c.sum-arg-1.given, carried x.result x.type_inv, place c.before.before)
     (stands_number c.args.arithmetic 16385 (omega arith) _ _ c.requires.4, stands_number c.args.arithmetic 16385 (omega arith) _ x.result x.ensures)
 
 pub offset_bounds-sheet-place-2 : goal.offset_bounds-sheet-place-2
@@ -73,4 +73,4 @@ shape_of-sheet c = simp length-set
 pub returns : goal.returns
 returns c =
     let sum = summed c.before in
-    rw (carried c.sum.result c.sum.type-inv, place c.before.before.before) record { stored = rw (← sum.number); bounded = sum.bounded }
+    rw (carried c.sum.result c.sum.type_inv, place c.before.before.before) record { stored = rw (← sum.number); bounded = sum.bounded }

@@ -1,6 +1,5 @@
 -- `weigh::begin_of` meets its contract. The invariant: the symbols passed are below s.
 -- Assumes nothing.
-use Prim.Native.Nat.{◌-◌}
 use native.Mathlib.Omega.{arith}
 use borrow.Author.Count.{below_more}
 use borrow.Author.Rules.{rules}

@@ -1,6 +1,6 @@
 -- `weigh::clear_row` meets its contract. The invariant: q numbers of the row are the arithmetic's zero.
 -- Assumes nothing.
-use Prim.Native.Nat.{◌+◌, ◌*◌, ◌-◌, ◌<◌}
+use Prim.Native.Nat.{◌+◌, ◌*◌, ◌<◌}
 use mathlib.Core.Path.{refl}
 use native.Mathlib.Omega.{arith}
 use lib.IntN.{pos}
@@ -47,7 +47,7 @@ loop-q-preserved c =
     let so_far = c.loop-q.invariant in (
       search rules,
       replaced_more (pos 0) (a.at * a.states) _ a.sheet.now c.loop-q.q _ _ c.loop-q.sheet so_far.1 refl (inside c).0
-          (rw (carried z.result z.type-inv) (stands_zero a.arithmetic 16385 z.result z.ensures)),
+          (rw (carried z.result z.type_inv) (stands_zero a.arithmetic 16385 z.result z.ensures)),
     )
 
 pub shape_of-sheet : goal.shape_of-sheet

@@ -1,7 +1,6 @@
 -- `weigh::clear_row` meets its contract. The invariant: q numbers of the row are the arithmetic's zero.
 -- Assumes nothing.
 use Prim.Native.Nat.{◌*◌, ◌-◌, ◌≤◌}
-use native.Mathlib.Omega.{arith}
 use lib.IntN.{pos}
 use Rattle.theory.specs.Arithmetic.{arithmetic as semiring}
 use Rattle.weigh.specs.Numbers.{StandsFor}

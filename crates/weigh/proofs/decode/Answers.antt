@@ -1,6 +1,5 @@
 -- `weigh::decode` meets its contract. The invariant: j numbers are stored.
 -- Assumes nothing.
-use Prim.Native.Nat.{◌-◌}
 use native.Mathlib.Omega.{arith}
 use lib.IntN.{pos}
 use lib.ListN.{get_or}
@@ -24,7 +23,7 @@ loop-j-preserved c =
     let long = pre.2 in (
       search rules,
       replaced_more (pos 0) 0 _ a.numbers.now l.j _ _ l.numbers l.invariant.1 (omega arith) (omega arith)
-          (rw (carried z.result z.type-inv) (stands_code a.arithmetic (get_or a.code.now l.j 0) (pre.3 l.j more) z.result z.ensures)),
+          (rw (carried z.result z.type_inv) (stands_code a.arithmetic (get_or a.code.now l.j 0) (pre.3 l.j more) z.result z.ensures)),
     )
 
 pub returns : goal.returns

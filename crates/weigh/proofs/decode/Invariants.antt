@@ -1,7 +1,6 @@
 -- `weigh::decode` meets its contract. The invariant: j numbers are stored.
 -- Assumes nothing.
 use Prim.Native.Nat.{◌-◌, ◌≤◌}
-use native.Mathlib.Omega.{arith}
 use lib.IntN.{pos}
 use lib.ListN.{get_or}
 use Rattle.theory.specs.Arithmetic.{meaning}

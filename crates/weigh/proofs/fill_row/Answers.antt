@@ -1,6 +1,5 @@
 -- `weigh::fill_row` meets its contract. The invariant is `Adding`.
 -- Assumes nothing.
-use Prim.Native.Nat.{◌-◌}
 use mathlib.Core.Path.{◌∙◌}
 use Rattle.weigh.specs.Rows.{Sources, sources, RowReady}
 use Rattle.weigh.proofs.Adding.{adding_starts, next_ready, next_good, next_inside, adding_goes_on, cleared_ready, adding_ends}

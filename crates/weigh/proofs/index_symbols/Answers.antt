@@ -1,7 +1,6 @@
 -- `weigh::index_symbols` meets its contract. The invariant: the beginnings of the symbols below s are stored, and the transitions
 -- before j have a symbol below s.
 -- Assumes nothing.
-use Prim.Native.Nat.{◌-◌}
 use native.Mathlib.Omega.{arith}
 use Rattle.weigh.proofs.Replacing.{replaced_none, replaced_more, replaced_all}
 use Rattle.weigh.proofs.index_symbols.Goals as goal

@@ -1,6 +1,6 @@
 -- `weigh::product_of` meets its contract. The invariant is `Multiplying`.
 -- Assumes nothing.
-use Prim.Native.Nat.{◌+◌, ◌*◌, ◌-◌, ◌<◌}
+use Prim.Native.Nat.{◌+◌, ◌*◌, ◌<◌}
 use mathlib.Core.Path.{◌≡◌}
 use lib.ListN.{length}
 use native.Mathlib.Omega.{arith}
@@ -61,7 +61,7 @@ product-x-requires c =
 pub loop-k-preserved : goal.loop-k-preserved
 loop-k-preserved c =
     let more = c.loop-k-test.true in
-    rw (carried _ c.product-x.type-inv)
+    rw (carried _ c.product-x.type_inv)
     (multiplying_goes_on c.args.arithmetic (from c.before.before.before.before.before.before.before.before.before.before.before.before) c.args.rank c.args.j c.requires.0.few_children _ _ c.loop-k.invariant more (c.requires.1.child _ more) c.product-x.result
     (rw (carried _ c.product-arg-1.given, place c.before.before.before) at c.product-x.ensures))
 

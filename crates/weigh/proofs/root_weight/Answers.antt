@@ -1,6 +1,6 @@
 -- `weigh::root_weight` meets its contract. The invariant is `Totalling`.
 -- Assumes nothing.
-use Prim.Native.Nat.{ℕ, ◌-◌}
+use Prim.Native.Nat.{ℕ}
 use native.Mathlib.Omega.{arith}
 use lib.IntN.{pos}
 use lib.ListN.{get_or}
@@ -30,7 +30,7 @@ part c p = (semiring c.args.arithmetic).times (meaning c.args.arithmetic (get_or
 pub loop-q-init : goal.loop-q-init
 loop-q-init c =
     let a = c.args in
-    rw (carried c.number_of_code-x.result c.number_of_code-x.type-inv) (totalling_starts a.arithmetic a.states (part c.before) c.number_of_code-x.result c.number_of_code-x.ensures)
+    rw (carried c.number_of_code-x.result c.number_of_code-x.type_inv) (totalling_starts a.arithmetic a.states (part c.before) c.number_of_code-x.result c.number_of_code-x.ensures)
 
 -- the two factors
 final-stands : (c : After-product-arg-1) →
@@ -52,7 +52,7 @@ product-requires c =
     let z = c.number_of_code in
     let own = final-stands c.before in
     let root = root_stands c.before in
-    rw (carried z.result z.type-inv, carried _ c.product-arg-1.given)
+    rw (carried z.result z.type_inv, carried _ c.product-arg-1.given)
     (stands_number a 1 (omega arith) _ z.result own, stands_number a 4096 (omega arith) _ _ root, product_in_sheet a 1 4096 (omega arith) _ _ z.result _ own root)
 
 -- their product
@@ -62,20 +62,20 @@ part-stands c =
     let a = c.args.arithmetic in
     let z = c.number_of_code in
     stands_product a 1 4096 (omega arith) _ _ z.result _ (final-stands c.before) (root_stands c.before) c.product.result
-    (rw (carried z.result z.type-inv, carried _ c.product-arg-1.given) at c.product.ensures)
+    (rw (carried z.result z.type_inv, carried _ c.product-arg-1.given) at c.product.ensures)
 
 pub sum-x-requires : goal.sum-x-requires
 sum-x-requires c =
     let a = c.args.arithmetic in
-    rw (carried c.product.result c.product.type-inv)
+    rw (carried c.product.result c.product.type_inv)
     (stands_number a 4097 (omega arith) _ _ c.loop-q.invariant.stands, stands_number a 4097 (omega arith) _ _ (part-stands c.before))
 
 pub loop-q-preserved : goal.loop-q-preserved
 loop-q-preserved c =
     let l = c.loop-q in
-    rw (carried c.sum-x.result c.sum-x.type-inv)
+    rw (carried c.sum-x.result c.sum-x.type_inv)
     (totalling_goes_on c.args.arithmetic c.args.states (part c.before.before.before.before.before.before.before.before.before.before) l.q _ l.invariant c.loop-q-test.true c.product.result (part-stands c.before.before) c.sum-x.result
-    (rw (carried c.product.result c.product.type-inv) at c.sum-x.ensures))
+    (rw (carried c.product.result c.product.type_inv) at c.sum-x.ensures))
 
 pub returns : goal.returns
 returns c =

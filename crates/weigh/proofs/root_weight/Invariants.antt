@@ -1,11 +1,8 @@
 -- `weigh::root_weight` meets its contract. The invariant is `Totalling`.
 -- Assumes nothing.
 use Prim.Native.Nat.{◌-◌}
-use native.Mathlib.Omega.{arith}
 use lib.IntN.{pos}
 use lib.ListN.{get_or}
-use mir.Syntax.{w64}
-use mir.Val.{to_z}
 use Rattle.theory.specs.Arithmetic.{arithmetic as semiring, meaning}
 use Rattle.arith.specs.Numbers.{weight_of}
 use Rattle.weigh.proofs.Totalling.{Totalling}
@@ -13,7 +10,7 @@ use Rattle.weigh.proofs.root_weight.Given as goal
 
 abbrev pub invariant-loop-q : goal.invariant-loop-q
 invariant-loop-q l =
-    Totalling l.arithmetic l.states (λ p. (semiring l.arithmetic).times (meaning l.arithmetic (get_or l.finals p 0)) (weight_of l.arithmetic (get_or l.sheet p (pos 0)))) l.q (to_z w64 l.x)
+    Totalling l.arithmetic l.states (λ p. (semiring l.arithmetic).times (meaning l.arithmetic (get_or l.finals p 0)) (weight_of l.arithmetic (get_or l.sheet p (pos 0)))) l.q l.x
 
 abbrev pub decreases-loop-q : goal.decreases-loop-q
 decreases-loop-q l = l.states - l.q

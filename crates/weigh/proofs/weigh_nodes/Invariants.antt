@@ -1,8 +1,5 @@
 -- `weigh::weigh_nodes` meets its contract. The invariant is `Filling`.
 -- Assumes nothing.
-use Prim.Native.Nat.{◌-◌}
-use mathlib.Core.Path.{sym}
-use native.Mathlib.Omega.{arith}
 use Rattle.tables.specs.Record.{columns, table_in}
 use Rattle.weigh.proofs.Filling.{Filling}
 use Rattle.weigh.proofs.weigh_nodes.Given as goal

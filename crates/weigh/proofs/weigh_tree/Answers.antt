@@ -2,7 +2,7 @@
 -- Assumes nothing.
 use mathlib.Core.Path.{◌≡◌, sym, ap, ◌∙◌}
 use native.Mathlib.Omega.{arith}
-use lib.ListN.{length, take, length-map}
+use lib.ListN.{length, take}
 use Rattle.trees.specs.declared.TreeRead.TheVariants.{Nodes}
 use Rattle.trees.specs.Read.{tree_read}
 use Rattle.trees.specs.Written.{nodes_are_bytes}
@@ -23,23 +23,23 @@ Start = lts.Start tie.the-claims reads.Pre reads.Post
 
 -- the record's arrays are as long as they are declared
 finals_long : (s : Start) → length s.args.t.finals ≡ 256
-finals_long s = sym (length-map s.args.t.finals _) ∙ s.well_formed.0.1.1.1.1.1.1.1.0.1.0.1
+finals_long s = s.well_formed.0.1.1.1.1.1.1.1.0.1.0.1
 
 long : (s : Start) → Long (columns s.args.t.ranks s.args.t.symbol s.args.t.children s.args.t.target s.args.t.code)
 long s =
     let from-ranks = s.well_formed.0.1.1.1.1.1.1 in
     record {
-      ranks = sym (length-map s.args.t.ranks _) ∙ from-ranks.0.1.0.1;
-      symbol = sym (length-map s.args.t.symbol _) ∙ from-ranks.1.1.0.1.0.1;
-      children = sym (length-map s.args.t.children _) ∙ from-ranks.1.1.1.0.1.0.1;
-      target = sym (length-map s.args.t.target _) ∙ from-ranks.1.1.1.1.0.1.0.1;
-      code = sym (length-map s.args.t.code _) ∙ from-ranks.1.1.1.1.1.0.1.0.1;
+      ranks = from-ranks.0.1.0.1;
+      symbol = from-ranks.1.1.0.1.0.1;
+      children = from-ranks.1.1.1.0.1.0.1;
+      target = from-ranks.1.1.1.1.0.1.0.1;
+      code = from-ranks.1.1.1.1.1.0.1.0.1;
     }
 
 -- the tree that was read
 found : (c : In-Nodes) →
     let a = c.args in
-    tree_read (take a.t1.symbols a.t1.ranks) a.tree.now ≡ Nodes c.in-Nodes.nodes
+    tree_read (take a.t.symbols a.t.ranks) a.tree.now ≡ Nodes c.in-Nodes.nodes
 found c = sym c.read_tree.ensures ∙ c.in-Nodes.is
 
 pub overflow_mul-needed : goal.overflow_mul-needed
@@ -50,7 +50,7 @@ overflow_mul-needed c =
 pub returns-then-sheet-needed : goal.returns-then-sheet-needed
 returns-then-sheet-needed c =
     let a = c.args in
-    room_refused (table_of a.t1) a.tree.now a.sheet.now _ (found c.before.before.before) c.if-sheet-needed.true c.refused.result c.refused.ensures
+    room_refused (table_of a.t) a.tree.now a.sheet.now _ (found c.before.before.before) c.if-sheet-needed.true c.refused.result c.refused.ensures
 
 pub weigh_nodes-weight-requires : goal.weigh_nodes-weight-requires
 weigh_nodes-weight-requires c =
@@ -67,10 +67,10 @@ weigh_nodes-weight-requires c =
 pub returns-else-sheet-needed : goal.returns-else-sheet-needed
 returns-else-sheet-needed c =
     let a = c.args in
-    rw (carried c.weigh_nodes-weight.result c.weigh_nodes-weight.type-inv)
-    (tree_weighed (table_of a.t1) a.tree.now a.sheet.now c.in-Nodes.nodes (found c.before.before.before.before.before.before.before.before.before.before.before) c.if-sheet-needed.false c.weigh_nodes-weight.result _ c.weigh_nodes-weight.ensures)
+    rw (carried c.weigh_nodes-weight.result c.weigh_nodes-weight.type_inv)
+    (tree_weighed (table_of a.t) a.tree.now a.sheet.now c.in-Nodes.nodes (found c.before.before.before.before.before.before.before.before.before.before.before) c.if-sheet-needed.false c.weigh_nodes-weight.result _ c.weigh_nodes-weight.ensures)
 
 pub returns-in-Refused : goal.returns-in-Refused
 returns-in-Refused c =
     let a = c.args in
-    tree_refused (table_of a.t1) a.tree.now a.sheet.now _ (sym c.read_tree.ensures ∙ c.in-Refused.is) c.refused-in-Refused.result c.refused-in-Refused.ensures
+    tree_refused (table_of a.t) a.tree.now a.sheet.now _ (sym c.read_tree.ensures ∙ c.in-Refused.is) c.refused-in-Refused.result c.refused-in-Refused.ensures

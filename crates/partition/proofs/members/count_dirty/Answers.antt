@@ -1,9 +1,8 @@
 -- `partition::members::count_dirty` meets its contract. The invariant: the dirty states below q are counted. Assumes nothing.
-use Prim.Native.Nat.{◌-◌}
-use mathlib.Core.Logic.{⊎_elim}
 use mathlib.Core.Path.{◌≡◌, sym}
 use native.Mathlib.Omega.{arith}
 use Rattle.partition.proofs.Counting.{counting_dirty, counting_clean, count_few, count_none}
+use Rattle.partition.proofs.members.count_dirty.Goals.{then-dirty-q, else-dirty-q}
 use Rattle.partition.proofs.members.count_dirty.Goals as goal
 
 pub loop-q-init : goal.loop-q-init
@@ -16,10 +15,10 @@ pub loop-q-preserved : goal.loop-q-preserved
 loop-q-preserved c =
     let dirty = c.args.dirty.now in
     let l = c.loop-q in
-    ⊎_elim
-    (λ w. (omega arith, omega (arith, counting_dirty dirty l.q w.0.taken)))
-    (λ w. (omega arith, omega (arith, counting_clean dirty l.q w.0.left)))
-    c.if-dirty-q.branch
+    elim c.if-dirty-q.branch [
+      | then-dirty-q w ↦ (omega arith, omega (arith, w.count-is, counting_dirty dirty l.q w.if-dirty-q.true))
+      | else-dirty-q w ↦ (omega arith, omega (arith, w.count-is, counting_clean dirty l.q w.if-dirty-q.false))
+    ]
 
 pub returns : goal.returns
 returns c =

@@ -1,6 +1,4 @@
 -- `partition::members::first_dirty` meets its contract. The invariant: no state below q is dirty. Assumes nothing.
-use Prim.Native.Nat.{◌-◌}
-use mathlib.Core.Bool.{false}
 use native.Mathlib.Omega.{arith}
 use borrow.Author.Count.{below_more}
 use Rattle.partition.proofs.members.first_dirty.Goals as goal

@@ -1,8 +1,7 @@
 -- `partition::members::gather_dirty` meets its contract. The invariant is `Gathering`: the dirty members below q are found, and the number
 -- of dirty states from q on is left. Assumes nothing.
-use Prim.Native.Nat.{ℕ, ◌-◌, ◌≤◌, ◌<◌}
+use Prim.Native.Nat.{ℕ, ◌≤◌, ◌<◌}
 use mathlib.Core.Bool.{false}
-use mathlib.Core.Logic.{⊎_elim}
 use mathlib.Core.Path.{◌≡◌}
 use native.Mathlib.Omega.{arith}
 use Rattle.partition.specs.Members.{flag}
@@ -11,6 +10,7 @@ use borrow.Author.Rules.{rules}
 use Rattle.partition.proofs.members.gather_dirty.Lts as lts
 use Rattle.partition.proofs.members.gather_dirty.Tie as tie
 use Rattle.partition.proofs.members.gather_dirty.Reads as reads
+use Rattle.partition.proofs.members.gather_dirty.Goals.{then-dirty-q+then-list-q, then-dirty-q+else-list-q, else-dirty-q}
 use Rattle.partition.proofs.members.gather_dirty.Goals as goal
 
 abbrev After-wide-q : Type 0
@@ -67,12 +67,14 @@ loop-left-preserved c =
     let a = c.args in
     let l = c.loop-left in
     let some : 0 < l.left = omega (arith, c.loop-left-test.true) in
-    ⊎_elim
-    (λ w. rw (w.4, w.5, w.6) (gathering_takes a.block.0 a.list.now a.dirty.now a.states l.found l.left l.count l.q l.invariant some w.0.taken c.requires.0 w.3.taken))
-    (⊎_elim
-    (λ w. rw (w.4, w.5, w.6) (gathering_elsewhere a.block.0 a.list.now a.dirty.now a.states l.found l.left l.count l.q l.invariant some w.0.taken w.3.left))
-    (λ w. rw (w.1, w.2, w.3) (gathering_clean a.block.0 a.list.now a.dirty.now a.states l.found l.left l.count l.q l.invariant some w.0.left)))
-    c.if-dirty-q.branch
+    elim c.if-dirty-q.branch [
+      | then-dirty-q+then-list-q w ↦
+          rw (w.found-is, w.left-is, w.count-is) (gathering_takes a.block.0 a.list.now a.dirty.now a.states l.found l.left l.count l.q l.invariant some w.if-dirty-q.true c.requires.0 w.if-list-q.true)
+      | then-dirty-q+else-list-q w ↦
+          rw (w.found-is, w.left-is, w.count-is) (gathering_elsewhere a.block.0 a.list.now a.dirty.now a.states l.found l.left l.count l.q l.invariant some w.if-dirty-q.true w.if-list-q.false)
+      | else-dirty-q w ↦
+          rw (w.found-is, w.left-is, w.count-is) (gathering_clean a.block.0 a.list.now a.dirty.now a.states l.found l.left l.count l.q l.invariant some w.if-dirty-q.false)
+    ]
 
 pub returns : goal.returns
 returns c =

@@ -1,9 +1,8 @@
 -- `partition::members::near_clean` meets its contract. The invariant is `NoneNear`: no clean member is nearer than `distance`. Assumes nothing.
-use Prim.Native.Nat.{◌-◌}
-use mathlib.Core.Logic.{⊎_elim}
 use native.Mathlib.Omega.{arith}
 use Rattle.theory.specs.Equality.{not_both}
 use Rattle.partition.proofs.Nearest.{near_starts, near_goes_on, near_found, near_ends}
+use Rattle.partition.proofs.members.near_clean.Goals.{then-distance-middle+else-is_clean-2, else-distance-middle}
 use Rattle.partition.proofs.members.near_clean.Goals as goal
 
 pub loop-distance-init : goal.loop-distance-init
@@ -29,10 +28,10 @@ loop-distance-preserved c =
     let l = c.loop-distance in
     near_goes_on a.block.0 a.states a.list.now a.dirty.now c.wide-middle.result l.distance l.invariant c.loop-distance-test.true
     (λ is. not_both _ (c.is_clean.ensures.1 is.state is.member is.clean) c.if-is_clean.false)
-    (λ h is. ⊎_elim
-    (λ w. not_both _ (w.1.ensures.1 is.state is.member is.clean) w.2.left)
-    (λ w. absurd (omega (arith, w.left)))
-    c.if-distance-middle.branch)
+    (λ h is. elim c.if-distance-middle.branch [
+      | then-distance-middle+else-is_clean-2 w ↦ not_both _ (w.is_clean-then-distance-middle.ensures.1 is.state is.member is.clean) w.if-is_clean-2.false
+      | else-distance-middle w ↦ absurd (omega (arith, w.if-distance-middle.false))
+    ])
 
 pub returns : goal.returns
 returns c =

@@ -1,16 +1,15 @@
 -- `partition::numbering::by_first_use` meets its contract. The invariant is `FirstUsing`: the states below q have their new numbers, and
 -- the blocks met have names. Assumes nothing.
-use Prim.Native.Nat.{ℕ, ◌-◌, ◌≤◌, ◌<◌}
-use mathlib.Core.Logic.{⊎_elim}
+use Prim.Native.Nat.{ℕ, ◌≤◌, ◌<◌}
 use mathlib.Core.Path.{◌≡◌, sym, ap, ◌∙◌}
 use native.Mathlib.Omega.{arith}
-use borrow.Author.Tests.{eqb-true, eqb-false}
 use lib.ListN.{get_or, replicate}
 use Rattle.partition.proofs.FirstUsing.{first_using_starts, first_using_few, first_using_known, first_using_new}
 use borrow.Author.Rules.{rules}
 use Rattle.partition.proofs.numbering.by_first_use.Lts as lts
 use Rattle.partition.proofs.numbering.by_first_use.Tie as tie
 use Rattle.partition.proofs.numbering.by_first_use.Reads as reads
+use Rattle.partition.proofs.numbering.by_first_use.Goals.{then-first-q+then-same-block, else-first-q, else-first-q-via-then-first-q+else-same-block, else-first-q-via-else-first-q}
 use Rattle.partition.proofs.numbering.by_first_use.Goals as goal
 
 abbrev At-loop-q : Type 0
@@ -38,19 +37,22 @@ loop-q-preserved c =
     let block = c.wide-block in
     let first = c.wide-first in
     let same = c.wide-same in
-    ⊎_elim
-    (λ w. (
-      omega arith,
-      rw (w.2, w.3, w.4) (first_using_known before l.list l.names l.number l.q l.invariant.1 inside first.result
-          (first.ensures.0 ∙ ap (λ (D : ℕ). get_or l.names D 0) block.ensures.0) w.0.taken (sym same.ensures.0 ∙ eqb-true same.result block.result w.1.taken ∙ block.ensures.0)),
-    ))
-    (λ w. (
-      omega arith,
-      rw (w.1, w.2, w.3) (first_using_new before l.list l.names l.number l.q l.invariant.1 inside block.result
-          block.ensures.0 block.ensures.1
-          (λ h e. ⊎_elim (λ v. eqb-false same.result block.result v.1.left (same.ensures.0 ∙ ap (λ (p : ℕ). get_or before p 0) first.ensures.0 ∙ e)) (λ v. omega (arith, v.left, first.ensures.0)) w.0.came)),
-    ))
-    c.if-first-q.branch
+    elim c.if-first-q.branch [
+      | then-first-q+then-same-block w ↦ (
+        omega arith,
+        rw (w.list-is, w.names-is, w.number-is) (first_using_known before l.list l.names l.number l.q l.invariant.1 inside first.result
+            (first.ensures.0 ∙ ap (λ (D : ℕ). get_or l.names D 0) block.ensures.0) w.if-first-q.true (sym same.ensures.0 ∙ w.if-same-block.true ∙ block.ensures.0)),
+      )
+      | else-first-q w ↦ (
+        omega arith,
+        rw (w.list-is, w.names-is, w.number-is) (first_using_new before l.list l.names l.number l.q l.invariant.1 inside block.result
+            block.ensures.0 block.ensures.1
+            (λ h e. elim w.else-first-q.branch [
+              | else-first-q-via-then-first-q+else-same-block v ↦ v.if-same-block.false (same.ensures.0 ∙ ap (λ (p : ℕ). get_or before p 0) first.ensures.0 ∙ e)
+              | else-first-q-via-else-first-q v ↦ omega (arith, v.if-first-q.false, first.ensures.0)
+            ])),
+      )
+    ]
 
 pub returns : goal.returns
 returns c =

@@ -1,5 +1,4 @@
 -- `partition::numbering::first_alike` meets its contract. The invariant: no state below p may share the block of q. Assumes nothing.
-use Prim.Native.Nat.{◌-◌}
 use native.Mathlib.Omega.{arith}
 use borrow.Author.Count.{below_more}
 use Rattle.partition.proofs.Starting.{alike_forward}

@@ -1,12 +1,12 @@
 -- `partition::numbering::start` meets its contract. The invariant is the promise itself, for the states below q. Assumes nothing.
-use Prim.Native.Nat.{◌-◌, ◌<◌}
-use mathlib.Core.Logic.{⊎_elim}
+use Prim.Native.Nat.{◌<◌}
 use mathlib.Core.Path.{◌≡◌}
 use native.Mathlib.Omega.{arith}
 use lib.ListN.{replicate}
 use Rattle.theory.specs.Direction.{direction as side_of}
 use Rattle.partition.proofs.Starting.{starting_starts, starting_shares, starting_new}
 use borrow.Author.Rules.{rules}
+use Rattle.partition.proofs.numbering.start.Goals.{then-p-q, else-p-q}
 use Rattle.partition.proofs.numbering.start.Goals as goal
 
 pub loop-q-init : goal.loop-q-init
@@ -18,10 +18,10 @@ loop-q-preserved c =
     let l = c.loop-q in
     let more = c.loop-q-test.true in
     let inside : l.q < 256 = omega (arith, c.requires.0) in
-    ⊎_elim
-    (λ w. (omega arith, rw w.2 (omega (arith, l.invariant.1)), rw (w.1, w.2) (starting_shares (side_of a.direction) a.finals.now l.q l.number l.list l.invariant.2 inside c.first_alike-p.result c.first_alike-p.ensures w.0.taken)))
-    (λ w. (omega arith, rw w.2 (omega (arith, l.invariant.1)), rw (w.1, w.2) (starting_new (side_of a.direction) a.finals.now l.q l.number l.list l.invariant.2 inside c.first_alike-p.result c.first_alike-p.ensures w.0.left)))
-    c.if-p-q.branch
+    elim c.if-p-q.branch [
+      | then-p-q w ↦ (omega arith, rw w.number-is (omega (arith, l.invariant.1)), rw (w.list-is, w.number-is) (starting_shares (side_of a.direction) a.finals.now l.q l.number l.list l.invariant.2 inside c.first_alike-p.result c.first_alike-p.ensures w.if-p-q.true))
+      | else-p-q w ↦ (omega arith, rw w.number-is (omega (arith, l.invariant.1)), rw (w.list-is, w.number-is) (starting_new (side_of a.direction) a.finals.now l.q l.number l.list l.invariant.2 inside c.first_alike-p.result c.first_alike-p.ensures w.if-p-q.false))
+    ]
 
 pub returns : goal.returns
 returns c =

@@ -1,8 +1,8 @@
 -- `partition::parts::largest` meets its contract. The invariant is `Sizing`: the best part so far is one of the parts. Assumes nothing.
-use Prim.Native.Nat.{◌-◌, ◌<◌}
-use mathlib.Core.Logic.{⊎_elim}
+use Prim.Native.Nat.{◌<◌}
 use native.Mathlib.Omega.{arith}
 use Rattle.partition.proofs.Sizes.{sizing_starts, sizing_goes_on}
+use Rattle.partition.proofs.parts.largest.Goals.{then-sizes-best, else-sizes-best}
 use Rattle.partition.proofs.parts.largest.Goals as goal
 
 pub loop-i-init : goal.loop-i-init
@@ -24,7 +24,11 @@ pub loop-i-preserved : goal.loop-i-preserved
 loop-i-preserved c =
     let l = c.loop-i in
     let more = c.loop-i-test.true in
-    let known : c.if-sizes-best.best < c.args.parts = ⊎_elim (λ w. rw (w.1, c.wide-m.ensures.0) (c.requires.4 l.i more)) (λ w. rw w.1 l.invariant.best_known) c.if-sizes-best.branch in
+    let known : c.if-sizes-best.best < c.args.parts =
+    elim c.if-sizes-best.branch [
+      | then-sizes-best w ↦ rw (w.best-is, c.wide-m.ensures.0) (c.requires.4 l.i more)
+      | else-sizes-best w ↦ rw w.best-is l.invariant.best_known
+    ] in
     sizing_goes_on c.args.many c.args.parts l.sizes l.best l.i l.invariant more c.wide-m.result c.if-sizes-best.best known
 
 pub returns : goal.returns

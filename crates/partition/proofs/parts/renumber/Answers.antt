@@ -1,5 +1,4 @@
 -- `partition::parts::renumber` meets its contract. The invariant is the promise itself, for i members. Assumes nothing.
-use Prim.Native.Nat.{◌-◌}
 use mathlib.Core.Path.{◌≡◌, ◌∙◌, ap}
 use native.Mathlib.Omega.{arith}
 use Rattle.partition.specs.Parts.{number_of}

@@ -1,0 +1,9 @@
+-- The loop of `inspect::read_full`: what is read stays inside the buffer, and each turn reads more.
+use Rattle.std.proofs.Common.{length, ◌-◌, ◌≤◌}
+use Rattle.inspect.proofs.read_full.Given as goal
+
+abbrev pub invariant-loop-done : goal.invariant-loop-done
+invariant-loop-done g l = l.done ≤ length l.buffer
+
+abbrev pub decreases-loop-done : goal.decreases-loop-done
+decreases-loop-done g l = length l.buffer - l.done
