@@ -85,8 +85,8 @@ loop-j-preserved c n by =
     (row_at (columns c.args.ranks.now c.args.symbol.now c.args.children.now c.args.target.now c.args.code.now) l.j)
     (row_at (columns c.args.ranks.now c.args.symbol.now c.args.children.now c.args.target.now []) l.j) refl refl ∙ sym (c.counts.ensures b n by) in
     elim c.if-counts.branch [
-    | then-counts w ↦ rw (w.keys-is, w.codes-is, w.many-is) (gathering_takes _ _ _ _ _ l.keys l.codes l.many l.j (l.invariant n by) more c.requires.1.0 (counts-is ∙ w.if-counts.true) _ _ w.key_of.ensures refl)
-    | else-counts w ↦ rw (w.keys-is, w.codes-is, w.many-is) (gathering_skips _ _ _ _ _ l.keys l.codes l.many l.j (l.invariant n by) more (counts-is ∙ w.if-counts.false))
+      | then-counts w ↦ rw (w.keys-is, w.codes-is, w.many-is) (gathering_takes _ _ _ _ _ l.keys l.codes l.many l.j (l.invariant n by) more c.requires.1.0 (counts-is ∙ w.if-counts.true) _ _ w.key_of.ensures refl)
+      | else-counts w ↦ rw (w.keys-is, w.codes-is, w.many-is) (gathering_skips _ _ _ _ _ l.keys l.codes l.many l.j (l.invariant n by) more (counts-is ∙ w.if-counts.false))
     ]
 
 pub returns : goal.returns

@@ -25,12 +25,12 @@ loop-i-preserved c =
     let l = c.loop-i in
     let more = c.loop-i-test.true in
     elim c.if-wide-keeper.branch [
-    | then-wide-keeper w ↦ (
-      omega arith,
-      rw w.dirty-is (marking_next 0 l.i (λ x q. (get_or a.part.now x 0 ≢ a.keeper) × Depends (side_of a.direction) a.ranks.now a.symbol.now a.children.now a.target.now a.starts.now a.list.now (get_or a.found.now x 0) q) a.dirty.now l.dirty w.mark.new.dirty l.invariant.1
-          (marking_less (Depends (side_of a.direction) a.ranks.now a.symbol.now a.children.now a.target.now a.starts.now a.list.now (get_or a.found.now l.i 0)) _ l.dirty w.mark.new.dirty w.mark.ensures (λ q h. h.1))),
-    )
-    | else-wide-keeper w ↦ (omega arith, rw w.dirty-is (marking_skips 0 l.i (λ x q. (get_or a.part.now x 0 ≢ a.keeper) × Depends (side_of a.direction) a.ranks.now a.symbol.now a.children.now a.target.now a.starts.now a.list.now (get_or a.found.now x 0) q) a.dirty.now l.dirty l.invariant.1 (λ q h. h.0 (sym c.wide.ensures.0 ∙ w.if-wide-keeper.false))))
+      | then-wide-keeper w ↦ (
+        omega arith,
+        rw w.dirty-is (marking_next 0 l.i (λ x q. (get_or a.part.now x 0 ≢ a.keeper) × Depends (side_of a.direction) a.ranks.now a.symbol.now a.children.now a.target.now a.starts.now a.list.now (get_or a.found.now x 0) q) a.dirty.now l.dirty w.mark.new.dirty l.invariant.1
+            (marking_less (Depends (side_of a.direction) a.ranks.now a.symbol.now a.children.now a.target.now a.starts.now a.list.now (get_or a.found.now l.i 0)) _ l.dirty w.mark.new.dirty w.mark.ensures (λ q h. h.1))),
+      )
+      | else-wide-keeper w ↦ (omega arith, rw w.dirty-is (marking_skips 0 l.i (λ x q. (get_or a.part.now x 0 ≢ a.keeper) × Depends (side_of a.direction) a.ranks.now a.symbol.now a.children.now a.target.now a.starts.now a.list.now (get_or a.found.now x 0) q) a.dirty.now l.dirty l.invariant.1 (λ q h. h.0 (sym c.wide.ensures.0 ∙ w.if-wide-keeper.false))))
     ]
 
 pub returns : goal.returns

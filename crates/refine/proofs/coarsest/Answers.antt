@@ -29,7 +29,6 @@ After-start-start = lts.After-start tie.the-claims reads.Pre reads.Post
 abbrev Start : Type 0
 Start = lts.Start tie.the-claims reads.Pre reads.Post
 
-
 -- the arrays of a table record have their lengths
 long : (s : Start) → Long s.args.table.ranks s.args.table.symbol s.args.table.children s.args.table.target × (length s.args.table.code ≡ 4000) × (length s.args.table.finals ≡ 256)
 long s = (record { ranks_long = search rules; symbol_long = search rules; children_long = search rules; target_long = search rules }, search rules, search rules)
@@ -55,22 +54,21 @@ started c =
     present_starts c.requires.1 c.requires.2 _ c.start-start.ensures refl (λ q l. all-dirty q (omega (arith, c.requires.2.states_few)))
 
 pub index_both_sides-requires : goal.index_both_sides-requires
-index_both_sides-requires c =
-    (
-      c.requires.0,
-      record {
-        ranks_long = (long c.before.before.before.before.before.before.before.before).0.ranks_long;
-        symbol_long = (long c.before.before.before.before.before.before.before.before).0.symbol_long;
-        children_long = (long c.before.before.before.before.before.before.before.before).0.children_long;
-        target_long = (long c.before.before.before.before.before.before.before.before).0.target_long;
-        count_few = count_few c.requires.1 c.requires.2;
-        symbol_known = symbol_known c.requires.1 c.requires.2;
-      },
-      blank,
-      refl,
-      blank,
-      refl,
-    )
+index_both_sides-requires c = (
+  c.requires.0,
+  record {
+    ranks_long = (long c.before.before.before.before.before.before.before.before).0.ranks_long;
+    symbol_long = (long c.before.before.before.before.before.before.before.before).0.symbol_long;
+    children_long = (long c.before.before.before.before.before.before.before.before).0.children_long;
+    target_long = (long c.before.before.before.before.before.before.before.before).0.target_long;
+    count_few = count_few c.requires.1 c.requires.2;
+    symbol_known = symbol_known c.requires.1 c.requires.2;
+  },
+  blank,
+  refl,
+  blank,
+  refl,
+)
 
 pub start-start-requires : goal.start-start-requires
 start-start-requires c =

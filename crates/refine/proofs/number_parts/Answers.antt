@@ -75,10 +75,10 @@ returns c =
     let keeps = c.keeper-keeper.ensures.0 in (
       refl,
       elim c.if-parts-gt1.branch [
-      | then-parts-gt1 w ↦ numbered c.before c.if-parts-gt1.dirty (rw w.dirty-is w.mark_moved.ensures) (λ e. absurd (omega (arith, w.if-parts-gt1.true)))
-      | else-parts-gt1 w ↦
-          numbered c.before c.if-parts-gt1.dirty
-          (rw w.dirty-is (marking_starts _ _ (λ q m. m.3.0 (omega (arith, c.requires.5.within m.0 m.2, w.if-parts-gt1.false))) (renumbered c.before).dirty_long))
-          (λ e. w.dirty-is)
+        | then-parts-gt1 w ↦ numbered c.before c.if-parts-gt1.dirty (rw w.dirty-is w.mark_moved.ensures) (λ e. absurd (omega (arith, w.if-parts-gt1.true)))
+        | else-parts-gt1 w ↦
+            numbered c.before c.if-parts-gt1.dirty
+            (rw w.dirty-is (marking_starts _ _ (λ q m. m.3.0 (omega (arith, c.requires.5.within m.0 m.2, w.if-parts-gt1.false))) (renumbered c.before).dirty_long))
+            (λ e. w.dirty-is)
       ],
     )

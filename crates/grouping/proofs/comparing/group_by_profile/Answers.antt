@@ -49,18 +49,18 @@ loop-i-preserved c =
     let inside : l.i < 256 = omega (arith, c.requires.4) in
     let first = c.find_part-m.ensures in
     elim c.if-m-parts.branch [
-    | then-m-parts w ↦
-    let new : (n : ℕ) → Grouping n (entries_of a.starts.now a.ends.now a.keys.now a.codes.now) a.found.now (l.i + 1) (l.parts + 1) (set l.leaders l.parts (get_or a.found.now l.i 0)) (set l.part l.i l.parts) =
-    λ n. grouping_leads n (entries_of a.starts.now a.ends.now a.keys.now a.codes.now) a.found.now l.i l.parts l.leaders l.part (l.invariant.4 n) l.invariant.2 inside l.invariant.3 l.invariant.1 (λ m h. (first n).differ m (omega (arith, w.if-m-parts.true))) in
-    (omega arith, rw w.parts-is (omega (arith, l.invariant.1)), length-set l.part l.i _ ∙ l.invariant.2, rw w.leaders-is (length-set l.leaders _ _ ∙ l.invariant.3), λ n. rw (w.leaders-is, w.parts-is, w.if-m-parts.true) (new n))
-    | else-m-parts w ↦
-    let known : c.find_part-m.result < l.parts = omega (arith, (first 0).some, w.if-m-parts.false) in (
-      omega arith,
-      rw w.parts-is (omega (arith, l.invariant.1)),
-      length-set l.part l.i _ ∙ l.invariant.2,
-      rw w.leaders-is l.invariant.3,
-      λ n. rw (w.leaders-is, w.parts-is) (grouping_joins n (entries_of a.starts.now a.ends.now a.keys.now a.codes.now) a.found.now l.i l.parts l.leaders l.part (l.invariant.4 n) l.invariant.2 inside c.find_part-m.result known ((first n).same known)),
-    )
+      | then-m-parts w ↦
+          let new : (n : ℕ) → Grouping n (entries_of a.starts.now a.ends.now a.keys.now a.codes.now) a.found.now (l.i + 1) (l.parts + 1) (set l.leaders l.parts (get_or a.found.now l.i 0)) (set l.part l.i l.parts) =
+          λ n. grouping_leads n (entries_of a.starts.now a.ends.now a.keys.now a.codes.now) a.found.now l.i l.parts l.leaders l.part (l.invariant.4 n) l.invariant.2 inside l.invariant.3 l.invariant.1 (λ m h. (first n).differ m (omega (arith, w.if-m-parts.true))) in
+          (omega arith, rw w.parts-is (omega (arith, l.invariant.1)), length-set l.part l.i _ ∙ l.invariant.2, rw w.leaders-is (length-set l.leaders _ _ ∙ l.invariant.3), λ n. rw (w.leaders-is, w.parts-is, w.if-m-parts.true) (new n))
+      | else-m-parts w ↦
+          let known : c.find_part-m.result < l.parts = omega (arith, (first 0).some, w.if-m-parts.false) in (
+            omega arith,
+            rw w.parts-is (omega (arith, l.invariant.1)),
+            length-set l.part l.i _ ∙ l.invariant.2,
+            rw w.leaders-is l.invariant.3,
+            λ n. rw (w.leaders-is, w.parts-is) (grouping_joins n (entries_of a.starts.now a.ends.now a.keys.now a.codes.now) a.found.now l.i l.parts l.leaders l.part (l.invariant.4 n) l.invariant.2 inside c.find_part-m.result known ((first n).same known)),
+          )
     ]
 
 pub returns : goal.returns

@@ -58,8 +58,8 @@ loop-k-preserved c =
     let inside = c.requires.3.inside in
     let few = rank_few c.before.before in
     elim c.if-k-place.branch [
-    | then-k-place w ↦ (omega arith, rw (w.packed-is, w.long.ensures.0) (sym (packing_next a.children.now (a.u / 4) c.wide-rank.result l.k (a.u % 4) l.packed long inside few more w.if-k-place.true) ∙ l.invariant.1), rw w.packed-is (room_next l.packed l.k w.long.result l.invariant.2 w.long.ensures.1))
-    | else-k-place w ↦ (omega arith, rw w.packed-is (sym (packing_skips a.children.now (a.u / 4) c.wide-rank.result l.k (a.u % 4) l.packed long inside few more w.if-k-place.false) ∙ l.invariant.1), rw w.packed-is (room_more l.packed l.k l.invariant.2))
+      | then-k-place w ↦ (omega arith, rw (w.packed-is, w.long.ensures.0) (sym (packing_next a.children.now (a.u / 4) c.wide-rank.result l.k (a.u % 4) l.packed long inside few more w.if-k-place.true) ∙ l.invariant.1), rw w.packed-is (room_next l.packed l.k w.long.result l.invariant.2 w.long.ensures.1))
+      | else-k-place w ↦ (omega arith, rw w.packed-is (sym (packing_skips a.children.now (a.u / 4) c.wide-rank.result l.k (a.u % 4) l.packed long inside few more w.if-k-place.false) ∙ l.invariant.1), rw w.packed-is (room_more l.packed l.k l.invariant.2))
     ]
 
 pub overflow_mul-result-2 : goal.overflow_mul-result-2
