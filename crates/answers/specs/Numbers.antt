@@ -1,6 +1,6 @@
 -- Document 01's table "Numbers that come back", with what document 02 adds to it: the code and the figure of each refusal, and of each
 -- answer.
-use Rattle.std.specs.Prelude.{ℕ, ◌+◌, ◌*◌, ◌^◌, ◌<◌, ◌≤◌, Bool, true, false, ◌&&◌, T, ltb}
+use Rattle.std.specs.Prelude.{ℕ, ◌+◌, ◌*◌, ◌^◌, ◌<◌, Bool, true, false, ◌&&◌, T, ltb}
 use Rattle.std.proofs.Common.{ltb→lt}
 use Rattle.answers.specs.declared.Refusal.{Refusal}
 use Rattle.answers.specs.declared.Answer.{Answer}
