@@ -1,7 +1,7 @@
 -- How long a table's written form is: at most 65,415 bytes (document 01, "Bytes").
 use Rattle.std.specs.Prelude.{ℕ, ◌+◌, ◌*◌, ◌≤◌, ◌<◌, ◌≡◌, List, [], ◌∷◌, ◌++◌, length, get_or}
 use Rattle.std.proofs.Common.{ap, ◌∙◌, arith, length-append}
-use Rattle.model.specs.Each.{each_implies, each-get_or}
+use Rattle.model.proofs.Each.{each_implies, each-get_or}
 use Rattle.model.specs.Table.{Table, Transition, Each, Proper, ProperTransition}
 use Rattle.numbers.specs.Written.{written, written_all}
 use Rattle.format.specs.Read.{found, table_read}
@@ -101,8 +101,3 @@ table_length X proper =
       proper.finals_many,
       proper.transitions_few,
     )
-
--- no longer list of bytes is read as a table
-pub read_length : (s : List ℕ) → ((i : ℕ) → get_or s i 0 < 256) → (X : Table) (p : ℕ) → table_read s ≡ found X p → length s ≤ 65415
-read_length s small X p e =
-    let (proper, form, end) = table_sound s small X p e in omega (arith, ap length form, table_length X proper)
