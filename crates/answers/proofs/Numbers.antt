@@ -1,5 +1,5 @@
 -- Each code of document 01's table "Numbers that come back" is from 1 to 99.
-use Rattle.std.specs.Prelude.{ℕ, ◌<◌, Bool, true, false, ◌&&◌, T, ltb}
+use Rattle.std.specs.Prelude.{◌<◌, Bool, true, false, ◌&&◌, T, ltb}
 use Rattle.std.proofs.Common.{ltb→lt}
 use Rattle.answers.specs.declared.Refusal.{Refusal}
 use Rattle.answers.specs.Numbers.{is_code, line_of, code_of}

@@ -4,11 +4,10 @@ use Rattle.std.proofs.Common.{inl, inr, ⊎_elim, sym, ap, ◌∙◌, subst, ari
 use Rattle.std.proofs.Math.Decide.{dec_le, dec_lt, ℕ_discrete}
 use Rattle.std.proofs.Math.ListN.{get_or-eq_default}
 use Rattle.answers.specs.declared.Refusal.{Refusal}
-use Rattle.answers.specs.declared.Refusal.TheVariants.{TableEnds, PaddedNumber, LargeNumber}
 use Rattle.numbers.specs.declared.NumberRead.{NumberRead}
 use Rattle.numbers.specs.declared.NumberRead.TheVariants.{Number, Refused}
 use Rattle.numbers.specs.Read.{number, with_lowest, more_from, number_at, more_ends, number_ends, more_padded, more_last, more_more, fifth_large, fifth_last, number_short, number_long}
-use Rattle.numbers.specs.Causes.{GoesOn, CutOff, Padded, TooLarge, Cause, ended, padded, large}
+use Rattle.numbers.specs.Causes.{GoesOn, Padded, TooLarge, Cause, ended, padded, large}
 
 -- No number is both padded and too large.
 pub never_padded_and_large : (s : List ℕ) (first : ℕ) → Padded s first → TooLarge s first → ⊥

@@ -1,14 +1,8 @@
 -- Why no number stands at a place, told from the bytes alone: the table ends (1), the number is padded (2), or it is too large (19).
 -- The reader names exactly the one that is met, and no number is both padded and too large (document 02, M-104).
-use Rattle.std.specs.Prelude.{ℕ, zero, suc, ◌+◌, ◌-◌, ◌≤◌, ◌<◌, ◌⊎◌, ◌≡◌, refl, List, length, get_or}
-use Rattle.std.proofs.Common.{inl, inr, ⊎_elim, sym, ap, ◌∙◌, subst, arith, add-zero}
-use Rattle.std.proofs.Math.Decide.{dec_le, dec_lt, ℕ_discrete}
-use Rattle.std.proofs.Math.ListN.{get_or-eq_default}
+use Rattle.std.specs.Prelude.{ℕ, ◌+◌, ◌≤◌, ◌<◌, ◌≡◌, List, length, get_or}
 use Rattle.answers.specs.declared.Refusal.{Refusal}
 use Rattle.answers.specs.declared.Refusal.TheVariants.{TableEnds, PaddedNumber, LargeNumber}
-use Rattle.numbers.specs.declared.NumberRead.{NumberRead}
-use Rattle.numbers.specs.declared.NumberRead.TheVariants.{Number, Refused}
-use Rattle.numbers.specs.Read.{number, with_lowest, more_from, number_at, more_ends, number_ends, more_padded, more_last, more_more, fifth_large, fifth_last, number_short, number_long}
 
 -- so many bytes from the first on have the top bit set, so that one more is due
 abbrev pub GoesOn : List ℕ → ℕ → ℕ → Type 0

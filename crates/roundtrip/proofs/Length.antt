@@ -1,12 +1,8 @@
 -- No list of more than 65,415 bytes is read as a table.
-use Rattle.std.specs.Prelude.{ℕ, ◌+◌, ◌*◌, ◌≤◌, ◌<◌, ◌≡◌, List, [], ◌∷◌, ◌++◌, length, get_or}
-use Rattle.std.proofs.Common.{ap, ◌∙◌, arith, length-append}
-use Rattle.model.proofs.Each.{each_implies, each-get_or}
-use Rattle.model.specs.Table.{Table, Transition, Each, Proper, ProperTransition}
-use Rattle.numbers.specs.Written.{written, written_all}
+use Rattle.std.specs.Prelude.{ℕ, ◌≤◌, ◌<◌, ◌≡◌, List, length, get_or}
+use Rattle.std.proofs.Common.{ap, arith}
+use Rattle.model.specs.Table.{Table}
 use Rattle.format.specs.Read.{found, table_read}
-use Rattle.format.specs.Written.{transition_numbers, transitions_numbers, bytes_of}
-use Rattle.roundtrip.specs.Numbers.{written_few, written_one, written_two}
 use Rattle.roundtrip.specs.Tables.{table_sound}
 use Rattle.roundtrip.specs.Length.{table_length}
 

@@ -1,5 +1,5 @@
 -- What is added up for named members is the collapse.
-use Rattle.std.specs.Prelude.{◌≡◌, ◌⊎◌, Bool, ◌&&◌, ℕ, ◌<◌, ◌^◌, T, eqb, get_or}
+use Rattle.std.specs.Prelude.{◌≡◌, ◌⊎◌, Bool, ◌&&◌, ℕ, ◌<◌, ◌^◌, T}
 use Rattle.std.proofs.Common.{sym, ap, ap₂, ◌∙◌, subst, inl, inr, arith, eqb→eq}
 use mathlib.Core.List.{List, [], map, map-map, Memᴰ}
 use Rattle.std.proofs.Math.Facts.{and_yes, yes_and}
@@ -8,16 +8,16 @@ use Rattle.model.proofs.Each.{each_implies, each_map, each_members, each_member,
 use Rattle.theory.specs.Equality.{numbers, lists, same_list, same_list_equal, equal_same, test_iff}
 use Rattle.theory.specs.Semiring.{Semiring, Laws}
 use Rattle.theory.specs.Sum.{only, sum_same, sum-met, only_and}
-use Rattle.theory.specs.Grouping.{key_sum, key_sums_met}
-use Rattle.theory.specs.Arithmetic.{arithmetic, Weight, meaning, code_of, code_of-meaning, code_of_zero, meaning-code_of}
-use Rattle.theory.specs.Blocks.{block_of, block_count, FirstUse, block_count_above, member, member_shares}
+use Rattle.theory.specs.Grouping.{key_sums_met}
+use Rattle.theory.specs.Arithmetic.{arithmetic, meaning, code_of, code_of-meaning, code_of_zero, meaning-code_of}
+use Rattle.theory.specs.Blocks.{block_of, FirstUse, block_count_above, member, member_shares}
 use Rattle.theory.proofs.Blocks.{block_member}
 use Rattle.theory.specs.Bisimulation as General
 use Rattle.theory.specs.Direction.{Direction, backward, forward, Agree, Bisimulation, CoarsestBlocks}
 use Rattle.theory.proofs.Uses.{agreement}
 use Rattle.theory.specs.Entry.{key_at, key_at_parts, block_key, code_at, weight_at_key, Between, code_at_own, code_at_holds}
 use Rattle.theory.proofs.Entry.{weight_at_key_listed}
-use Rattle.theory.specs.Collapse.{block_weight, block_final, Shape, Collapsed, CollapsedByCoarsest}
+use Rattle.theory.specs.Collapse.{block_weight, Collapsed, CollapsedByCoarsest}
 use Rattle.theory.proofs.BlockWeight.{counts, Counts, counts_sound, counts_complete, counts_blocks, block_weight_counts, block_weight_member, block_final_member}
 use Rattle.theory.specs.AddingUp.{Names, named, named_weight, named_sum, AddedUp}
 use Rattle.theory.proofs.Laws.{laws}

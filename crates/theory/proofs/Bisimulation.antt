@@ -1,6 +1,6 @@
 -- The coarsest blocks, numbered by first use, are determined.
 use Rattle.std.specs.Prelude.{◌≡◌, ℕ, ◌<◌}
-use Rattle.theory.specs.Blocks.{Refines, FirstUse}
+use Rattle.theory.specs.Blocks.{FirstUse}
 use Rattle.theory.proofs.Blocks.{first_use_unique}
 use Rattle.theory.specs.Bisimulation.{Coarsest}
 

@@ -1,9 +1,8 @@
 -- Blocks numbered by first use: each has a member, there are no more than states, and the numbers are determined.
-use Rattle.std.specs.Prelude.{◌≡◌, refl, ◌⊎◌, ◌≢◌, Bool, true, false, cond, List, [], ◌∷◌, map, ℕ, zero, suc, ◌<◌, ◌≤◌, max, eqb, get_or}
-use Rattle.std.proofs.Common.{sym, ap, ap₂, ◌∙◌, subst, inl, inr, arith}
+use Rattle.std.specs.Prelude.{◌≡◌, refl, List, [], ◌∷◌, map, ℕ, zero, suc, ◌<◌, ◌≤◌}
+use Rattle.std.proofs.Common.{sym, ap₂, ◌∙◌, subst, arith}
 use Rattle.std.proofs.Math.Decide.{dec_lt}
 use Rattle.model.specs.Table.{Each}
-use Rattle.theory.specs.Equality.{numbers, equal_or_not, equal_same, same_true, same_false, false_differ, true_of}
 use Rattle.theory.specs.Blocks.{block_count, FirstUse, Refines, block_count_same}
 
 module _ (n : ℕ) (b : ℕ → ℕ) (numbered : FirstUse n b) where

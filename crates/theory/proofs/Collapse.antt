@@ -1,19 +1,15 @@
 -- A collapse by given blocks is determined, and so is the collapse by the coarsest blocks.
-use Rattle.std.specs.Prelude.{◌≡◌, ℕ, ◌<◌, eqb, length, get_or}
+use Rattle.std.specs.Prelude.{◌≡◌, ℕ, ◌<◌, get_or}
 use Rattle.std.proofs.Common.{sym, ap₂, ◌∙◌, subst, arith, ext_get_or}
-use mathlib.Core.List.{List, [], map, Memᴰ}
-use Rattle.model.specs.Table.{Table, Transition, Each, key, Ascending}
+use mathlib.Core.List.{List, map, Memᴰ}
+use Rattle.model.specs.Table.{Table, Transition, Each, key}
 use Rattle.model.proofs.Each.{each_implies, each_map, each_member}
-use Rattle.theory.specs.Sum.{only, sum}
-use Rattle.theory.specs.Below.{below}
-use Rattle.theory.specs.Arithmetic.{arithmetic, Weight, code_of}
-use Rattle.theory.specs.Weight.{final}
-use Rattle.theory.specs.Blocks.{block_of, block_count, FirstUse, block_count_above}
+use Rattle.theory.specs.Blocks.{block_of, FirstUse, block_count_above}
 use Rattle.theory.proofs.Blocks.{block_member, block_members}
-use Rattle.theory.specs.Direction.{Direction, backward, forward, sum_from, sum_into, CoarsestBlocks}
+use Rattle.theory.specs.Direction.{Direction}
 use Rattle.theory.proofs.Direction.{coarsest_blocks_unique}
 use Rattle.theory.specs.Entry.{key_at, code_at, Between, transitions_unique}
-use Rattle.theory.specs.Collapse.{Shape, Collapsed, CollapsedByCoarsest}
+use Rattle.theory.specs.Collapse.{Collapsed, CollapsedByCoarsest}
 
 module _ (d : Direction) (X : Table) (b : ℕ → ℕ) (numbered : FirstUse X.states b) where
   module _ (Y : Table) (C : Collapsed d X b Y) where

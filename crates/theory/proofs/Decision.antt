@@ -1,19 +1,11 @@
 -- What is computed decides the coarsest blocks.
-use Rattle.std.specs.Prelude.{◌≡◌, refl, Bool, true, false, not, ◌&&◌, ◌||◌, List, [], ◌∷◌, ℕ, zero, suc, ◌+◌, ◌<◌, ◌≤◌, T, eqb, leb, length}
-use Rattle.std.proofs.Common.{subst, arith, eqb→eq, leb→le}
-use Rattle.std.proofs.Math.Decide.{dec_lt}
-use Rattle.std.proofs.Math.Facts.{yes_and}
+use Rattle.std.specs.Prelude.{refl, Bool, ◌&&◌, List, ℕ, T, eqb, leb, length}
+use Rattle.std.proofs.Common.{eqb→eq, leb→le}
 use store.Enc.{and_l, and_r}
-use Rattle.model.specs.Table.{Table, Each, Proper}
-use Rattle.model.proofs.Each.{each_implies}
-use Rattle.theory.specs.Equality.{numbers, equal_same}
-use Rattle.theory.specs.Below.{below, up_from}
-use Rattle.theory.specs.Semiring.{Semiring}
+use Rattle.model.specs.Table.{Table, Proper}
 use Rattle.theory.specs.Arithmetic.{arithmetic}
 use Rattle.theory.specs.Blocks.{block_of, block_count, FirstUse}
-use Rattle.theory.specs.Bisimulation as General
 use Rattle.theory.specs.Direction.{Direction, CoarsestBlocks}
-use Rattle.theory.specs.Profile.{Use, key_of, profile, profile_met, Alike, alike_agreement}
 use Rattle.theory.specs.Uses.{uses, grade}
 use Rattle.theory.proofs.Uses.{uses_known}
 use Rattle.theory.proofs.Refinement.{coarsest_by_profile}

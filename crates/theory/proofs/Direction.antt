@@ -1,13 +1,8 @@
 -- A table has only one list of coarsest blocks.
-use Rattle.std.specs.Prelude.{◌≢◌, ◌≡◌, refl, List, ◌∷◌, ◌++◌, map, ℕ, zero, suc, ◌-◌, ◌≤◌, ◌<◌, eqb, length}
-use Rattle.std.proofs.Common.{sym, ap, ◌∙◌, subst, arith, ext_get_or}
-use Rattle.model.specs.Table.{Table, Each}
-use Rattle.theory.specs.Equality.{same_list}
-use Rattle.theory.specs.Sum.{only, sum}
-use Rattle.theory.specs.Arithmetic.{arithmetic, Weight}
-use Rattle.theory.specs.Weight.{entering, leaving, final}
-use Rattle.theory.specs.Blocks.{block_of, FirstUse}
-use Rattle.theory.specs.Bisimulation as General
+use Rattle.std.specs.Prelude.{◌≡◌, List, ℕ, ◌<◌}
+use Rattle.std.proofs.Common.{sym, ◌∙◌, subst, ext_get_or}
+use Rattle.model.specs.Table.{Table}
+use Rattle.theory.specs.Blocks.{block_of}
 use Rattle.theory.specs.Direction.{Direction, Agree, CoarsestBlocks}
 use Rattle.theory.proofs.Bisimulation.{coarsest_unique}
 

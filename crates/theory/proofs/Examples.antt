@@ -1,11 +1,9 @@
 -- Document 01's examples hold.
-use Rattle.std.specs.Prelude.{◌≡◌, refl, List, [], ◌∷◌, ℕ, ◌^◌, ◌<◌, ◌≤◌, pos, neg_ℤ, length, get_or}
+use Rattle.std.specs.Prelude.{◌≡◌, refl, List, [], ◌∷◌, ℕ, ◌^◌, ◌<◌, ◌≤◌, length, get_or}
 use Rattle.std.proofs.Common.{arith}
 use Rattle.model.specs.Table.{Table, Transition, Each, key, ProperTransition, Proper, Ascending}
-use Rattle.model.specs.Tree.{Tree, node, none, ◌then◌}
-use Rattle.theory.specs.MaxPlus.{number}
 use Rattle.theory.specs.Below.{below, below_each}
-use Rattle.theory.specs.Arithmetic.{meaning, code_of}
+use Rattle.theory.specs.Arithmetic.{code_of}
 use Rattle.theory.specs.Weight.{weight_at, weight, value}
 use Rattle.theory.specs.Sheet.{sheet}
 use Rattle.theory.specs.Blocks.{block_of, block_count, member}
@@ -16,7 +14,7 @@ use Rattle.theory.specs.Entry.{block_key, code_at}
 use Rattle.theory.specs.Collapse.{block_final, CollapsedByCoarsest}
 use Rattle.theory.specs.AddingUp.{named_sum}
 use Rattle.theory.proofs.AddingUp.{member_names, sums_by_entries, added_collapsed_by_coarsest}
-use Rattle.theory.specs.Examples.{a→, g→, table, g·a, table_a, table_a_collapsed, table_b, table_b_collapsed, table_c, table_c_collapsed, table_d, table_d_collapsed, table_e, table_f, Examples}
+use Rattle.theory.specs.Examples.{table, table_a, table_a_collapsed, table_b, table_b_collapsed, table_c, table_c_collapsed, table_d, table_d_collapsed, table_e, table_f, Examples}
 
 proper : (a n : ℕ) (fs : List ℕ) (ts : List Transition) → (a ≤ 1) × (1 ≤ n) × (n ≤ 256) × (length fs ≡ n) × Each (λ c. c < 2 ^ 32) fs × (length ts ≤ 4000)
     → Each (ProperTransition (0 ∷ 1 ∷ []) n) ts → Ascending [] ts → Proper (table a n fs ts)

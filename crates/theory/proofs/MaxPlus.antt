@@ -1,11 +1,8 @@
 -- The laws of arithmetic 1.
-use Rattle.std.specs.Prelude.{◌≡◌, refl, Bool, true, false, ℕ, T, eqb, ℤ, pos, negsuc, ◌+ℤ◌}
-use Rattle.std.proofs.Common.{ap, eqb→eq}
-use Rattle.std.proofs.Math.Dec.{eqb_refl}
+use Rattle.std.specs.Prelude.{◌≡◌, refl, pos}
+use Rattle.std.proofs.Common.{ap}
 use Rattle.std.proofs.Math.IntN.{+ℤ_comm, +ℤ_assoc, +ℤ_idr}
-use Rattle.theory.specs.Equality.{Equality}
-use Rattle.theory.specs.Semiring.{Semiring}
-use Rattle.theory.specs.Maximum.{max_z, max_z_comm, max_z_assoc, plus_max_z}
+use Rattle.theory.specs.Maximum.{max_z_comm, max_z_assoc, plus_max_z}
 use Rattle.theory.specs.Semiring.{Laws}
 use Rattle.theory.specs.MaxPlus.{Value, nothing, number, greater, added, max_plus}
 

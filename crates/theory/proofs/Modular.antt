@@ -1,11 +1,7 @@
 -- The laws of arithmetic 0.
-use Rattle.std.specs.Prelude.{◌≡◌, ℕ, ◌+◌, ◌*◌, ◌%◌, ◌/◌, ◌^◌, ◌<◌, eqb}
-use Rattle.std.proofs.Common.{sym, ap, ◌∙◌, arith, mod-eq_of_lt, add_comm, add_assoc, mul_comm, mul_assoc, mul-add, add-mul, mul-one, mul-zero, add-zero, eqb→eq}
-use mathlib.Core.HLevel.{Σ_prop_path}
-use Rattle.std.proofs.Math.Bridge.{le_prop}
-use Rattle.std.proofs.Math.Nat.{mod-add-mod, add-mod-mod, mod-add-div, add-mul-mod_self_left}
-use Rattle.std.proofs.Math.Dec.{eqb_refl}
-use Rattle.theory.specs.Semiring.{Semiring}
+use Rattle.std.specs.Prelude.{◌≡◌, ℕ, ◌+◌, ◌*◌, ◌%◌, ◌^◌}
+use Rattle.std.proofs.Common.{sym, ap, ◌∙◌, mod-eq_of_lt, add_comm, add_assoc, mul_comm, mul_assoc, mul-add, mul-one, mul-zero, add-zero}
+use Rattle.std.proofs.Math.Nat.{mod-add-mod, add-mod-mod}
 use Rattle.theory.specs.Semiring.{Laws}
 use Rattle.theory.specs.Modular.{residue, residue_same, remainder_times, times_remainder, modular}
 

@@ -1,12 +1,8 @@
 -- The coarsest blocks by profiles are the coarsest blocks of the table.
-use Rattle.std.specs.Prelude.{◌≡◌, ◌⊎◌, ◌≢◌, ◌↔◌, false, List, ℕ, ◌<◌, eqb}
-use Rattle.std.proofs.Common.{sym, ◌∙◌, inl, inr}
-use Rattle.model.specs.Table.{Table, Each, Proper}
-use Rattle.theory.specs.Equality.{numbers, equal_or_not, false_differ}
-use Rattle.theory.specs.Semiring.{Semiring}
+use Rattle.std.specs.Prelude.{ℕ}
+use Rattle.model.specs.Table.{Table, Proper}
 use Rattle.theory.specs.Bisimulation as General
 use Rattle.theory.specs.Direction.{Direction, Agree, Coarsest}
-use Rattle.theory.specs.Profile.{Use, SameProfile, Independent, profile_kept, Alike, alike_agreement}
 use Rattle.theory.specs.Uses.{AgreeByProfile}
 use Rattle.theory.proofs.Uses.{agree_profile, profile_agree}
 

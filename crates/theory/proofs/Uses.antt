@@ -3,7 +3,7 @@ use Rattle.std.specs.Prelude.{◌≡◌, refl, ◌⊎◌, Bool, true, false, ◌
 use Rattle.std.proofs.Math.Path.{sym, ap}
 use Rattle.std.proofs.Common.{◌∙◌, subst, arith, length-take-le}
 use Rattle.std.proofs.Math.Bool.{and_comm, and_assoc, and-false}
-use mathlib.Core.List.{List, [], ◌∷◌, ◌++◌, map, flat_map}
+use mathlib.Core.List.{List, [], ◌∷◌, ◌++◌, map}
 use Prim.Native.Nat.{ℕ, zero, suc, ◌<◌, ◌≤◌}
 use Rattle.std.proofs.Math.Decide.{dec_lt}
 use Rattle.std.proofs.Math.ListN.{length}
@@ -13,10 +13,10 @@ use Rattle.theory.specs.Equality.{numbers, same_list, same_comm, same_false}
 use Rattle.theory.specs.Sum.{only, sum, sum_same, sum-each, sum-zero, sum-map, sum-flat_map, only_and, only_zero, only_comm}
 use Rattle.theory.specs.Below.{below, each_below, below_once}
 use Rattle.theory.specs.Arithmetic.{arithmetic, Weight, meaning}
-use Rattle.theory.specs.Weight.{final, leaving}
+use Rattle.theory.specs.Weight.{leaving}
 use Rattle.theory.specs.Bisimulation.{Agreement}
 use Rattle.theory.specs.Direction.{Direction, backward, forward, sum_from, sum_into, AgreeForward, Agree}
-use Rattle.theory.specs.Profile.{Use, Key, key_of, keys, counted, profile, profile_met, Alike, alike_agreement}
+use Rattle.theory.specs.Profile.{Use, Key, key_of, keys, counted, profile, profile_met, alike_agreement}
 use Rattle.theory.specs.Uses.{others, use_into, use_at, uses, grade, AgreeByProfile}
 use Rattle.theory.proofs.Laws.{laws}
 

@@ -1,20 +1,15 @@
 -- Adding up a collapse: one named member stands for each block, and the transitions between named members are summed by the keys of their blocks.
-use Rattle.std.specs.Prelude.{◌≡◌, ◌⊎◌, Bool, ◌&&◌, ℕ, ◌<◌, ◌^◌, T, eqb, get_or}
-use Rattle.std.proofs.Common.{sym, ap, ap₂, ◌∙◌, subst, inl, inr, arith, eqb→eq}
-use mathlib.Core.List.{List, [], map, map-map, Memᴰ}
-use Rattle.std.proofs.Math.Facts.{and_yes, yes_and}
-use Rattle.model.specs.Table.{Table, Transition, Each, key, Ascending, ProperTransition, Proper}
-use Rattle.model.proofs.Each.{each_implies, each_map, each_members, each_member, map_each}
-use Rattle.theory.specs.Equality.{numbers, lists, same_list, same_list_equal, equal_same, test_iff}
-use Rattle.theory.specs.Semiring.{Semiring}
-use Rattle.theory.specs.Sum.{only, sum_same, sum-met, only_and}
-use Rattle.theory.specs.Grouping.{key_sum, key_sums_met}
-use Rattle.theory.specs.Arithmetic.{arithmetic, Weight, meaning, code_of, code_of-meaning, code_of_zero, meaning-code_of}
-use Rattle.theory.specs.Blocks.{block_of, block_count, FirstUse, block_count_above, member, member_shares}
-use Rattle.theory.specs.Bisimulation as General
-use Rattle.theory.specs.Direction.{Direction, backward, forward, Agree, Bisimulation, CoarsestBlocks}
-use Rattle.theory.specs.Entry.{key_at, key_at_parts, block_key, code_at, weight_at_key, Between, code_at_own, code_at_holds}
-use Rattle.theory.specs.Collapse.{block_weight, block_final, Shape, Collapsed, CollapsedByCoarsest}
+use Rattle.std.specs.Prelude.{◌≡◌, Bool, ℕ, ◌<◌, ◌^◌, eqb, get_or}
+use mathlib.Core.List.{List, map}
+use Rattle.model.specs.Table.{Table, Transition, Each}
+use Rattle.theory.specs.Equality.{lists, same_list}
+use Rattle.theory.specs.Sum.{only}
+use Rattle.theory.specs.Grouping.{key_sum}
+use Rattle.theory.specs.Arithmetic.{arithmetic, Weight, meaning, code_of}
+use Rattle.theory.specs.Blocks.{block_count}
+use Rattle.theory.specs.Direction.{Direction, backward, forward}
+use Rattle.theory.specs.Entry.{block_key, weight_at_key}
+use Rattle.theory.specs.Collapse.{block_final, Shape}
 
 -- r names one member of each of the blocks b of n states
 pub record Names (n : ℕ) (b r : ℕ → ℕ) : Type 0 where

@@ -1,6 +1,6 @@
 -- Bisimulations, whatever it means that two states agree: what both directions share.
 use Rattle.std.specs.Prelude.{◌≡◌, ℕ, ◌<◌}
-use Rattle.theory.specs.Blocks.{Refines, FirstUse}
+use Rattle.theory.specs.Blocks.{Refines}
 
 -- `Agree b p q` says that p and q, of n states, agree under the blocks b.
 module _ (n : ℕ) (Agree : (ℕ → ℕ) → ℕ → ℕ → Type 0) where

@@ -1,8 +1,7 @@
 -- Blocks of states: a function from state numbers to block numbers. Numbering by first use (document 01, "Definitions").
-use Rattle.std.specs.Prelude.{◌≡◌, refl, ◌⊎◌, ◌≢◌, Bool, true, false, cond, List, [], ◌∷◌, map, ℕ, zero, suc, ◌<◌, ◌≤◌, max, eqb, get_or}
-use Rattle.std.proofs.Common.{sym, ap, ap₂, ◌∙◌, subst, inl, inr, arith}
+use Rattle.std.specs.Prelude.{◌≡◌, refl, ◌⊎◌, ◌≢◌, Bool, true, false, cond, List, ℕ, zero, suc, ◌<◌, ◌≤◌, max, eqb, get_or}
+use Rattle.std.proofs.Common.{sym, ap, ◌∙◌, subst, inl, inr, arith}
 use Rattle.std.proofs.Math.Decide.{dec_lt}
-use Rattle.model.specs.Table.{Each}
 use Rattle.theory.specs.Equality.{numbers, equal_or_not, equal_same, same_true, same_false, false_differ, true_of}
 
 -- the block of each state, from a list with one block a state

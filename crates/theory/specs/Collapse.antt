@@ -1,16 +1,14 @@
 -- Collapses of a table by blocks of its states (document 01, "Definitions"; source 001, definitions 18 and 3).
 use Rattle.std.specs.Prelude.{◌≡◌, ℕ, ◌<◌, eqb, length, get_or}
-use Rattle.std.proofs.Common.{sym, ap₂, ◌∙◌, subst, arith, ext_get_or}
-use mathlib.Core.List.{List, [], map, Memᴰ}
-use Rattle.model.specs.Table.{Table, Transition, Each, key, Ascending}
-use Rattle.model.proofs.Each.{each_implies, each_map, each_member}
+use mathlib.Core.List.{List, [], map}
+use Rattle.model.specs.Table.{Table, Each, Ascending}
 use Rattle.theory.specs.Sum.{only, sum}
 use Rattle.theory.specs.Below.{below}
 use Rattle.theory.specs.Arithmetic.{arithmetic, Weight, code_of}
 use Rattle.theory.specs.Weight.{final}
-use Rattle.theory.specs.Blocks.{block_of, block_count, FirstUse, block_count_above}
+use Rattle.theory.specs.Blocks.{block_of, block_count}
 use Rattle.theory.specs.Direction.{Direction, backward, forward, sum_from, sum_into, CoarsestBlocks}
-use Rattle.theory.specs.Entry.{key_at, code_at, Between, transitions_unique}
+use Rattle.theory.specs.Entry.{key_at, code_at, Between}
 
 module _ (X : Table) (b : ℕ → ℕ) where
   -- the weight for the blocks of the children qs and the block of the target q: backward, the sum over children in those blocks for this one

@@ -1,18 +1,18 @@
 -- Tests that compute: whether given blocks are the coarsest of a table. They prove worked examples.
-use Rattle.std.specs.Prelude.{◌≡◌, refl, Bool, true, false, not, ◌&&◌, ◌||◌, List, [], ◌∷◌, ℕ, zero, suc, ◌+◌, ◌<◌, ◌≤◌, T, eqb, leb, length}
-use Rattle.std.proofs.Common.{subst, arith, eqb→eq, leb→le}
+use Rattle.std.specs.Prelude.{◌≡◌, Bool, true, false, not, ◌&&◌, ◌||◌, List, [], ◌∷◌, ℕ, zero, suc, ◌+◌, ◌<◌, ◌≤◌, T, eqb, leb, length}
+use Rattle.std.proofs.Common.{subst, arith, eqb→eq}
 use Rattle.std.proofs.Math.Decide.{dec_lt}
 use Rattle.std.proofs.Math.Facts.{yes_and}
 use store.Enc.{and_l, and_r}
-use Rattle.model.specs.Table.{Table, Each, Proper}
+use Rattle.model.specs.Table.{Table, Each}
 use Rattle.model.proofs.Each.{each_implies}
 use Rattle.theory.specs.Equality.{numbers, equal_same}
 use Rattle.theory.specs.Below.{below, up_from}
 use Rattle.theory.specs.Semiring.{Semiring, Laws}
 use Rattle.theory.specs.Arithmetic.{arithmetic}
-use Rattle.theory.specs.Blocks.{block_of, block_count, FirstUse}
+use Rattle.theory.specs.Blocks.{block_of, block_count}
 use Rattle.theory.specs.Bisimulation as General
-use Rattle.theory.specs.Direction.{Direction, CoarsestBlocks}
+use Rattle.theory.specs.Direction.{Direction}
 use Rattle.theory.specs.Profile.{Use, key_of, profile, profile_met, Alike, alike_agreement}
 use Rattle.theory.specs.Uses.{uses, grade}
 

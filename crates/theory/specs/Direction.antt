@@ -1,6 +1,6 @@
 -- Backward and forward bisimulation of a table (document 01, "Definitions"; source 001, definitions 16 and 1).
 use Rattle.std.specs.Prelude.{◌≢◌, ◌≡◌, refl, List, ◌∷◌, ◌++◌, map, ℕ, zero, suc, ◌-◌, ◌≤◌, ◌<◌, eqb, length}
-use Rattle.std.proofs.Common.{sym, ap, ◌∙◌, subst, arith, ext_get_or}
+use Rattle.std.proofs.Common.{ap, arith}
 use Rattle.model.specs.Table.{Table, Each}
 use Rattle.theory.specs.Equality.{same_list}
 use Rattle.theory.specs.Sum.{only, sum}

@@ -9,10 +9,10 @@ use Rattle.model.proofs.Each.{each_implies}
 use Rattle.theory.specs.Equality.{numbers, lists, same_list, same_list_equal, same_list_last, equal_same}
 use Rattle.theory.specs.Sum.{only, sum_same, only_zero}
 use Rattle.theory.specs.Grouping.{key_sum}
-use Rattle.theory.specs.Arithmetic.{arithmetic, Weight, meaning, meaning_zero}
+use Rattle.theory.specs.Arithmetic.{arithmetic, Weight, meaning}
 use Rattle.theory.specs.Weight.{entering, leaving}
 use Rattle.theory.specs.Order.{list_order}
-use Rattle.theory.specs.Listing.{Rising, listed, listed_member, listed_holds, listings_met, listing_unique, sum_listed}
+use Rattle.theory.specs.Listing.{Rising, listed, listed_member, listed_holds, listings_met, listing_unique}
 
 -- the key of a transition of σ with children qs and target q
 abbrev pub key_at : ℕ → List ℕ → ℕ → List ℕ

@@ -1,19 +1,13 @@
 -- Document 01's worked examples as tables. The list itself, about bytes, is in collapse/specs/Examples.antt.
-use Rattle.std.specs.Prelude.{◌≡◌, refl, List, [], ◌∷◌, ℕ, ◌^◌, ◌<◌, ◌≤◌, pos, neg_ℤ, length, get_or}
-use Rattle.std.proofs.Common.{arith}
-use Rattle.model.specs.Table.{Table, Transition, Each, key, ProperTransition, Proper, Ascending}
+use Rattle.std.specs.Prelude.{◌≡◌, List, [], ◌∷◌, ℕ, pos, neg_ℤ}
+use Rattle.model.specs.Table.{Table, Transition}
 use Rattle.model.specs.Tree.{Tree, node, none, ◌then◌}
 use Rattle.theory.specs.MaxPlus.{number}
-use Rattle.theory.specs.Below.{below, below_each}
-use Rattle.theory.specs.Arithmetic.{meaning, code_of}
-use Rattle.theory.specs.Weight.{weight_at, weight, value}
+use Rattle.theory.specs.Arithmetic.{meaning}
+use Rattle.theory.specs.Weight.{value}
 use Rattle.theory.specs.Sheet.{sheet}
-use Rattle.theory.specs.Blocks.{block_of, block_count, member}
 use Rattle.theory.specs.Direction.{Direction, backward, forward, CoarsestBlocks}
-use Rattle.theory.specs.Uses.{uses}
-use Rattle.theory.specs.Entry.{block_key, code_at}
-use Rattle.theory.specs.Collapse.{block_final, CollapsedByCoarsest}
-use Rattle.theory.specs.AddingUp.{named_sum}
+use Rattle.theory.specs.Collapse.{CollapsedByCoarsest}
 
 -- the symbols: a = 0 of rank 0, g = 1 of rank 1
 abbrev pub a→ : ℕ → ℕ → Transition

@@ -2,10 +2,9 @@
 use Rattle.std.specs.Prelude.{◌≡◌, refl, Bool, true, false, ℕ, T, eqb, ℤ, pos, negsuc, ◌+ℤ◌}
 use Rattle.std.proofs.Common.{ap, eqb→eq}
 use Rattle.std.proofs.Math.Dec.{eqb_refl}
-use Rattle.std.proofs.Math.IntN.{+ℤ_comm, +ℤ_assoc, +ℤ_idr}
 use Rattle.theory.specs.Equality.{Equality}
 use Rattle.theory.specs.Semiring.{Semiring}
-use Rattle.theory.specs.Maximum.{max_z, max_z_comm, max_z_assoc, plus_max_z}
+use Rattle.theory.specs.Maximum.{max_z}
 
 -- nothing, or a whole number
 pub data Value : Type 0 where

@@ -1,9 +1,9 @@
 -- Arithmetic 0: the numbers below 2^32, with sum and product modulo 2^32.
 use Rattle.std.specs.Prelude.{◌≡◌, ℕ, ◌+◌, ◌*◌, ◌%◌, ◌/◌, ◌^◌, ◌<◌, eqb}
-use Rattle.std.proofs.Common.{sym, ap, ◌∙◌, arith, mod-eq_of_lt, add_comm, add_assoc, mul_comm, mul_assoc, mul-add, add-mul, mul-one, mul-zero, add-zero, eqb→eq}
+use Rattle.std.proofs.Common.{sym, ap, ◌∙◌, arith, mod-eq_of_lt, mul_comm, mul_assoc, add-mul, eqb→eq}
 use mathlib.Core.HLevel.{Σ_prop_path}
 use Rattle.std.proofs.Math.Bridge.{le_prop}
-use Rattle.std.proofs.Math.Nat.{mod-add-mod, add-mod-mod, mod-add-div, add-mul-mod_self_left}
+use Rattle.std.proofs.Math.Nat.{mod-add-div, add-mul-mod_self_left}
 use Rattle.std.proofs.Math.Dec.{eqb_refl}
 use Rattle.theory.specs.Semiring.{Semiring}
 

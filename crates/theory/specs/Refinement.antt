@@ -1,13 +1,11 @@
 -- Refinement of blocks by profiles: what holds while blocks are split, and that it ends at the coarsest bisimulation.
 use Rattle.std.specs.Prelude.{◌≡◌, ◌⊎◌, ◌≢◌, ◌↔◌, false, List, ℕ, ◌<◌, eqb}
 use Rattle.std.proofs.Common.{sym, ◌∙◌, inl, inr}
-use Rattle.model.specs.Table.{Table, Each, Proper}
+use Rattle.model.specs.Table.{Each}
 use Rattle.theory.specs.Equality.{numbers, equal_or_not, false_differ}
 use Rattle.theory.specs.Semiring.{Semiring, Laws}
 use Rattle.theory.specs.Bisimulation as General
-use Rattle.theory.specs.Direction.{Direction, Agree, Coarsest}
 use Rattle.theory.specs.Profile.{Use, SameProfile, Independent, profile_kept, Alike, alike_agreement}
-use Rattle.theory.specs.Uses.{AgreeByProfile}
 
 module _ (S : Semiring) (n : ℕ) (grade : ℕ → S.Carrier) (uses : List (Use S.Carrier)) (known : Each (λ u. Each (λ r. r < n) u.through) uses) where
   -- b are the present blocks; a state that is not clean has to be looked at again

@@ -1,9 +1,5 @@
 -- Sequences of collapses: every tree keeps its value, and the last collapse, made again, gives the same table (demand 3).
-use Rattle.std.specs.Prelude.{◌≡◌, refl}
-use Rattle.std.proofs.Common.{◌∙◌}
-use Rattle.model.specs.Table.{Table, Proper}
-use Rattle.model.specs.Tree.{Tree}
-use Rattle.theory.specs.Weight.{value}
+use Rattle.model.specs.Table.{Table}
 use Rattle.theory.specs.Direction.{Direction}
 use Rattle.theory.specs.Collapse.{CollapsedByCoarsest}
 

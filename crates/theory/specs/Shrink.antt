@@ -1,10 +1,6 @@
 -- The shrink of a table from a named side (document 01, "Definitions").
 use Rattle.std.specs.Prelude.{◌≡◌}
-use Rattle.std.proofs.Common.{◌∙◌, subst}
-use Rattle.model.specs.Table.{Table, Proper}
-use Rattle.model.specs.Tree.{Tree}
-use Rattle.theory.specs.Weight.{value}
-use Rattle.theory.specs.Blocks.{block_of}
+use Rattle.model.specs.Table.{Table}
 use Rattle.theory.specs.Direction.{Direction, other}
 use Rattle.theory.specs.Collapse.{CollapsedByCoarsest}
 

@@ -1,22 +1,14 @@
 -- The uses of a table's states in each direction, and that two states agree exactly when they have equal grades and the same profile.
-use Rattle.std.specs.Prelude.{◌≡◌, refl, ◌⊎◌, Bool, true, false, ◌&&◌, eqb, get_or, take, drop}
-use Rattle.std.proofs.Math.Path.{sym, ap}
-use Rattle.std.proofs.Common.{◌∙◌, subst, arith, length-take-le}
-use Rattle.std.proofs.Math.Bool.{and_comm, and_assoc, and-false}
-use mathlib.Core.List.{List, [], ◌∷◌, ◌++◌, map, flat_map}
-use Prim.Native.Nat.{ℕ, zero, suc, ◌<◌, ◌≤◌}
-use Rattle.std.proofs.Math.Decide.{dec_lt}
+use Rattle.std.specs.Prelude.{get_or}
+use mathlib.Core.List.{List, [], ◌∷◌, map, flat_map}
+use Prim.Native.Nat.{ℕ, zero, suc}
 use Rattle.std.proofs.Math.ListN.{length}
-use Rattle.model.specs.Table.{Table, Transition, Each, ProperTransition}
-use Rattle.model.proofs.Each.{each_implies, each_all, each_map, each-flat_map, each_take, each-drop}
-use Rattle.theory.specs.Equality.{numbers, same_list, same_comm, same_false}
-use Rattle.theory.specs.Sum.{only, sum, sum_same, sum-each, sum-zero, sum-map, sum-flat_map, only_and, only_zero, only_comm}
-use Rattle.theory.specs.Below.{below, each_below, below_once}
+use Rattle.model.specs.Table.{Table, Transition}
+use Rattle.theory.specs.Below.{below}
 use Rattle.theory.specs.Arithmetic.{arithmetic, Weight, meaning}
-use Rattle.theory.specs.Weight.{final, leaving}
-use Rattle.theory.specs.Bisimulation.{Agreement}
-use Rattle.theory.specs.Direction.{Direction, backward, forward, sum_from, sum_into, AgreeForward, Agree}
-use Rattle.theory.specs.Profile.{Use, Key, key_of, keys, counted, profile, profile_met, Alike, alike_agreement}
+use Rattle.theory.specs.Weight.{final}
+use Rattle.theory.specs.Direction.{Direction, backward, forward}
+use Rattle.theory.specs.Profile.{Use, Alike}
 
 -- the list without its entry k
 abbrev pub others : ℕ → List ℕ → List ℕ
