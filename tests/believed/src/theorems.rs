@@ -28,9 +28,6 @@ const THEOREMS: &[(&str, &[&str])] = &[
             "one_table",
             "table_length",
             "longest",
-            "read_length",
-            "later_bytes",
-            "figure_fits",
             "written_means",
             "written_fewest",
             "table-codes",
@@ -38,8 +35,14 @@ const THEOREMS: &[(&str, &[&str])] = &[
             "table_means",
         ],
     ),
+    ("answers/proofs/Numbers.antt", &["in_range"]),
+    ("roundtrip/proofs/Length.antt", &["read_length"]),
     (
-        "numbers/specs/Causes.antt",
+        "roundtrip/proofs/Reach.antt",
+        &["later_bytes", "figure_fits"],
+    ),
+    (
+        "numbers/proofs/Causes.antt",
         &["number_cause", "cause_refused", "never_padded_and_large"],
     ),
     (
@@ -61,9 +64,19 @@ const THEOREMS: &[(&str, &[&str])] = &[
             "shrink_tells",
         ],
     ),
-    ("theory/specs/Bound.antt", &["weight_bound"]),
+    ("theory/proofs/Laws.antt", &["laws"]),
+    ("theory/proofs/Bound.antt", &["weight_bound"]),
     ("theory/specs/Equivalence.antt", &["equivalence_blocks"]),
 ];
+
+/// The files below proofs/ that hold such theorems. An edit of a definition makes them fail, and the gate reads that as a refusal only
+/// where they stand there.
+pub fn proof_files() -> impl Iterator<Item = &'static str> {
+    THEOREMS
+        .iter()
+        .map(|(place, _)| *place)
+        .filter(|place| place.contains("/proofs/"))
+}
 
 /// What the statements of these theorems name, the parameters of the modules that they stand in included.
 pub fn roots(sources: &Sources) -> Result<Vec<Id>, String> {
