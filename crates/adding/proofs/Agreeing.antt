@@ -7,7 +7,7 @@ use lib.Dec.{eqb}
 use Rattle.model.specs.Table.{Transition, Each}
 use Rattle.theory.specs.Blocks.{member}
 use Rattle.theory.specs.Direction.{Direction, backward, forward}
-use Rattle.model.specs.Each.{map_each}
+use Rattle.model.proofs.Each.{map_each}
 use Rattle.theory.specs.Entry.{key_at, Between}
 use Rattle.theory.specs.Equality.{same_list}
 use Rattle.adding.specs.Keys.{pack}

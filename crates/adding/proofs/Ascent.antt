@@ -7,7 +7,7 @@ use native.Mathlib.Omega.{arith}
 use lib.Dec.{T, ltb, ltb→lt, lt→ltb}
 use lib.ListN.{length, get_or, length-append}
 use Rattle.model.specs.Table.{Transition, Each, key, lower}
-use Rattle.model.specs.Each.{each_append}
+use Rattle.model.proofs.Each.{each_append}
 use Rattle.theory.specs.Equality.{numbers, same_true, same_false}
 use Rattle.theory.specs.Order.{ltb_total}
 use Rattle.profiles.specs.Packing.{packed}

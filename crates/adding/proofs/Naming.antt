@@ -8,8 +8,10 @@ use native.Mathlib.Numerals.{add-one}
 use borrow.Author.Tests.{eq-eqb, ne_eqb}
 use lib.ListN.{length, set, replicate, length-set, length-replicate, get_or-replicate}
 use lib.Seq.{get_or-set_same, get_or-set_other}
-use Rattle.theory.specs.Blocks.{FirstUse, block_count, block_count_few, member}
-use Rattle.theory.specs.AddingUp.{Names, member_names}
+use Rattle.theory.specs.Blocks.{FirstUse, block_count, member}
+use Rattle.theory.proofs.Blocks.{block_count_few}
+use Rattle.theory.specs.AddingUp.{Names}
+use Rattle.theory.proofs.AddingUp.{member_names}
 use Rattle.adding.specs.Named.{name_of, Greatest}
 
 -- of the states below q the greatest in each block is named

@@ -7,9 +7,9 @@ use mathlib.Core.List.{List, [], ◌∷◌, map, Memᴰ}
 use native.Mathlib.Omega.{arith}
 use lib.Dec.{T, eqb, eqb→eq, ltb→lt}
 use Rattle.model.specs.Table.{Table, Transition, Each, key, lower, Ascending}
-use Rattle.model.specs.Each.{each_members, each_member}
+use Rattle.model.proofs.Each.{each_members, each_member}
 use Rattle.theory.specs.Equality.{numbers, lists, same_list, equal_same, test_iff}
-use Rattle.theory.specs.Semiring.{Semiring}
+use Rattle.theory.specs.Semiring.{Semiring, Laws}
 use Rattle.theory.specs.Sum.{only, sum_same, sum-each, sum-map, sum-met, only_zero, zero_plus}
 use Rattle.theory.specs.Grouping.{key_sum, key_sums_through}
 use Rattle.theory.specs.Arithmetic.{arithmetic, Weight, meaning, meaning_zero, meaning_nonzero}
@@ -25,6 +25,7 @@ use Rattle.adding.specs.Named.{counted}
 use Rattle.adding.specs.Rows.{entry_of, gathered, KeyKnown}
 use Rattle.adding.proofs.Packing.{Packable, pack_symbol, pack_unpacked}
 use Rattle.adding.proofs.Ascent.{pack_lower}
+use Rattle.theory.proofs.Laws.{laws}
 
 -- a transition with its blocks for its states
 abbrev pub blocked : (ℕ → ℕ) → Transition → Transition
@@ -78,6 +79,9 @@ module _ (X : Table) (b r : ℕ → ℕ) (d : Direction) where
   abbrev S : Semiring
   S = arithmetic a
 
+  L : Laws S
+  L = laws a
+
   -- the sum of the gathered entries for a key is that of the transitions that count
   pub gathered_sum : (ts : List Transition) (j : ℕ) → sum_at a (gathered b r d ts) j ≡ key_sum S numbers ts (λ t. pack (block_key b t)) (named_weight X b r d) j
   gathered_sum [] j = refl
@@ -87,7 +91,7 @@ module _ (X : Table) (b r : ℕ → ℕ) (d : Direction) where
           → sum_at a (cond c (entry_of b t ∷ gathered b r d ts) (gathered b r d ts)) j
           ≡ S.plus (only S (eqb (pack (block_key b t)) j) (named_weight X b r d t)) (key_sum S numbers ts (λ t. pack (block_key b t)) (named_weight X b r d) j)
       go true e ih = ap₂ S.plus (ap (λ (c : Bool). only S (eqb (pack (block_key b t)) j) (only S c (meaning a t.code))) e) ih
-      go false e ih = ih ∙ sym (zero_plus S _)
+      go false e ih = ih ∙ sym (zero_plus S L _)
           ∙ ap (λ (w : Weight a). S.plus w (key_sum S numbers ts (λ t. pack (block_key b t)) (named_weight X b r d) j))
           (sym (only_zero S (eqb (pack (block_key b t)) j)) ∙ ap (λ (c : Bool). only S (eqb (pack (block_key b t)) j) (only S c (meaning a t.code))) e)
 
@@ -99,11 +103,11 @@ module _ (X : Table) (b r : ℕ → ℕ) (d : Direction) where
 
     -- each has the key of a transition's blocks
     known_one : (e : Entry) → Memᴰ e es → Known ranks e
-    known_one e m = go (sum-met S X.transitions (λ t. eqb (pack (block_key b t)) e.key) (named_weight X b r d))
+    known_one e m = go (sum-met S L X.transitions (λ t. eqb (pack (block_key b t)) e.key) (named_weight X b r d))
       where
         own : sum_at a es e.key ≡ meaning a e.code
         own = sum_same S es _ _ (λ f. ap (λ (c : Bool). only S c (meaning a f.code)) (same_place f.key e.key))
-            ∙ sum_listed numbers number_order place (λ f. f.code) 0 S (meaning a) (meaning_zero a) 0 (place e) es added.rising
+            ∙ sum_listed numbers number_order place (λ f. f.code) 0 S L (meaning a) (meaning_zero a) 0 (place e) es added.rising
             ∙ ap (meaning a) (listed_member numbers number_order place (λ f. f.code) 0 0 es added.rising m)
 
         go : ((t : Transition) × Memᴰ t X.transitions × T (eqb (pack (block_key b t)) e.key)) ⊎ (key_sum S numbers X.transitions (λ t. pack (block_key b t)) (named_weight X b r d) e.key ≡ S.zero)
@@ -124,7 +128,7 @@ module _ (X : Table) (b r : ℕ → ℕ) (d : Direction) where
     pub entries_sums : (k : List ℕ) → weight_at_key a (map (transition_of ranks) es) k ≡ named_sum X b r d k
     entries_sums k =
         sum-map S (transition_of ranks) es (λ t. only S (same_list (key t) k) (meaning a t.code))
-        ∙ key_sums_through S numbers lists unpacked es (λ e. e.key) (λ e. meaning a e.code) X.transitions (λ t. pack (block_key b t)) (named_weight X b r d) sum_same_key k
+        ∙ key_sums_through S L numbers lists unpacked es (λ e. e.key) (λ e. meaning a e.code) X.transitions (λ t. pack (block_key b t)) (named_weight X b r d) sum_same_key k
         ∙ sum-each S (λ t. Packable ranks (blocked b t)) X.transitions fit _ _ (λ t f.
         ap (λ (l : List ℕ). only S (same_list l k) (named_weight X b r d t)) (ap key (pack_unpacked ranks (blocked b t) f 0)))
       where

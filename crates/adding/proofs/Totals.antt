@@ -13,13 +13,17 @@ use lib.ListN.{length, get_or, set, replicate, length-set, length-replicate, get
 use lib.Seq.{get_or-set_same, get_or-set_other}
 use Rattle.theory.specs.Arithmetic.{arithmetic, Weight, meaning, code_of, meaning_zero, meaning-code_of, code_of_zero}
 use Rattle.theory.specs.Below.{up_from}
-use Rattle.theory.specs.Semiring.{Semiring}
+use Rattle.theory.specs.Semiring.{Semiring, Laws}
 use Rattle.theory.specs.Sum.{only, sum, zero_plus}
 use Rattle.adding.specs.Finals.{finals_added}
+use Rattle.theory.proofs.Laws.{laws}
 
 module _ (a n : ℕ) (finals : List ℕ) (b : ℕ → ℕ) where
   abbrev S : Semiring
   S = arithmetic a
+
+  L : Laws S
+  L = laws a
 
   -- the final weight of p, where p is in the block D
   abbrev share : ℕ → ℕ → Weight a
@@ -37,7 +41,7 @@ module _ (a n : ℕ) (finals : List ℕ) (b : ℕ → ℕ) where
     some = omega arith;
     long = length-replicate {A = ℕ} 256 0;
     own = λ D l. rw (get_or-replicate {A = ℕ} 256 D 0 0 l, meaning_zero a) (sym (code_of_zero a));
-    rest = λ D l. rw (get_or-replicate {A = ℕ} 256 D 0 0 l, meaning_zero a, sub-zero n) (zero_plus S _);
+    rest = λ D l. rw (get_or-replicate {A = ℕ} 256 D 0 0 l, meaning_zero a, sub-zero n) (zero_plus S L _);
   }
 
   module _ (sums : List ℕ) (q : ℕ) (so_far : Totalling sums q) where
@@ -65,16 +69,16 @@ module _ (a n : ℕ) (finals : List ℕ) (b : ℕ → ℕ) where
             let in_block : share D q ≡ meaning a (get_or finals q 0) = ap (λ (c : Bool). only S c (meaning a (get_or finals q 0))) (eq-eqb (b q) D (sym e ∙ sym d)) in
             let now_at : meaning a (get_or (set sums C new) D 0) ≡ S.plus (meaning a (get_or sums D 0)) (meaning a (get_or finals q 0)) = rw (d, here, f, meaning-code_of) in
             ap (λ (w : Weight a). S.plus w (sum S (up_from (q + 1) (n - (q + 1))) (share D))) now_at
-            ∙ S.plus_assoc _ _ _
+            ∙ L.plus_assoc _ _ _
             ∙ ap (S.plus (meaning a (get_or sums D 0))) (ap (λ (w : Weight a). S.plus w (sum S (up_from (q + 1) (n - (q + 1))) (share D))) (sym in_block) ∙ sym (opened D))
             ∙ so_far.rest D l
         rest_next D l (no d) =
             let out : share D q ≡ S.zero = ap (λ (c : Bool). only S c (meaning a (get_or finals q 0))) (ne_eqb (b q) D (λ g. d (sym g ∙ sym e))) in
             ap (λ (x : ℕ). S.plus (meaning a x) (sum S (up_from (q + 1) (n - (q + 1))) (share D))) (get_or-set_other sums C D new 0 d)
-            ∙ ap (S.plus (meaning a (get_or sums D 0))) (sym (zero_plus S _) ∙ ap (λ (w : Weight a). S.plus w (sum S (up_from (q + 1) (n - (q + 1))) (share D))) (sym out) ∙ sym (opened D))
+            ∙ ap (S.plus (meaning a (get_or sums D 0))) (sym (zero_plus S L _) ∙ ap (λ (w : Weight a). S.plus w (sum S (up_from (q + 1) (n - (q + 1))) (share D))) (sym out) ∙ sym (opened D))
             ∙ so_far.rest D l
 
     pub totalling_ends : n ≤ q → (D : ℕ) → D < 256 → get_or sums D 0 ≡ code_of a (finals_added a n finals b D)
     totalling_ends done D l =
         let none : n - q ≡ 0 = omega arith in
-        so_far.own D l ∙ ap (code_of a) (sym (S.plus_zero _) ∙ ap (λ (k : ℕ). S.plus (meaning a (get_or sums D 0)) (sum S (up_from q k) (share D))) (sym none) ∙ so_far.rest D l)
+        so_far.own D l ∙ ap (code_of a) (sym (L.plus_zero _) ∙ ap (λ (k : ℕ). S.plus (meaning a (get_or sums D 0)) (sum S (up_from q k) (share D))) (sym none) ∙ so_far.rest D l)

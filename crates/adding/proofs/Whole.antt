@@ -9,16 +9,18 @@ use lib.Dec.{eqb}
 use lib.ListN.{length, get_or, length-map}
 use lib.Seq.{get_or-take, length-take-le}
 use Rattle.model.specs.Table.{Table, Transition, Each, Proper, ProperTransition}
-use Rattle.model.specs.Each.{each_implies, each_map, each-get_or}
+use Rattle.model.proofs.Each.{each_implies, each_map, each-get_or}
 use Rattle.theory.specs.Sum.{only, sum-each}
 use Rattle.theory.specs.Below.{below, each_below}
 use Rattle.theory.specs.Arithmetic.{arithmetic, meaning, code_of, code_of-meaning}
-use Rattle.theory.specs.Blocks.{block_of, block_count_few, block_count_above}
+use Rattle.theory.specs.Blocks.{block_of, block_count_above}
+use Rattle.theory.proofs.Blocks.{block_count_few}
 use Rattle.theory.specs.Direction.{Direction, backward, forward}
 use Rattle.theory.specs.Collapse.{block_final, Collapsed}
 use Rattle.theory.specs.Entry.{Between}
-use Rattle.theory.specs.CollapseProper.{collapsed_proper}
-use Rattle.theory.specs.AddingUp.{Names, AddedUp, added_collapsed}
+use Rattle.theory.proofs.CollapseProper.{collapsed_proper}
+use Rattle.theory.specs.AddingUp.{Names, AddedUp}
+use Rattle.theory.proofs.AddingUp.{added_collapsed}
 use Rattle.tables.specs.Record.{Columns, columns, row_at, table_of}
 use Rattle.tables.specs.declared.TableRecord.{TableRecord}
 use Rattle.profiles.specs.Entries.{Entry, entry_at, entries_from, entries}

@@ -1,7 +1,6 @@
 -- Document 01's table "Numbers that come back", with what document 02 adds to it: the code and the figure of each refusal, and of each
 -- answer.
-use Rattle.std.specs.Prelude.{ℕ, ◌+◌, ◌*◌, ◌^◌, ◌<◌, ◌≤◌, Bool, true, false, ◌&&◌, T, ltb}
-use Rattle.std.proofs.Common.{ltb→lt}
+use Rattle.std.specs.Prelude.{ℕ, ◌+◌, ◌*◌, ◌^◌, Bool, ◌&&◌, ltb}
 use Rattle.answers.specs.declared.Refusal.{Refusal}
 use Rattle.answers.specs.declared.Answer.{Answer}
 use Rattle.answers.specs.declared.Answer.TheVariants.{Done, Refused}
@@ -14,27 +13,26 @@ is_code code = ltb 0 code && ltb code 100
 pub record Line : Type 0 where
   pub code : ℕ
   pub figure : ℕ
-  pub in_range : T (is_code code)
 
-abbrev pub line : (code figure : ℕ) → T (is_code code) → Line
-line code figure in_range = record { code = code; figure = figure; in_range = in_range }
+abbrev pub line : (code figure : ℕ) → Line
+line code figure = record { code = code; figure = figure }
 
 -- the table, line by line; a figure is a place, the room needed, or the number that the table gives
 abbrev pub line_of : Refusal → Line
-line_of (Refusal.TableEnds at) = line 1 at tt
-line_of (Refusal.PaddedNumber at) = line 2 at tt
-line_of (Refusal.OutOfRange at) = line 3 at tt
-line_of (Refusal.NotInTable at) = line 4 at tt
-line_of (Refusal.ZeroCode at) = line 5 at tt
-line_of (Refusal.NotAbove at) = line 6 at tt
-line_of (Refusal.TableGoesOn at) = line 7 at tt
-line_of (Refusal.TreeEnds at) = line 8 at tt
-line_of (Refusal.UnknownSymbol at) = line 9 at tt
-line_of (Refusal.TreeGoesOn at) = line 10 at tt
-line_of Refusal.TreeTooLong = line 11 4096 tt
-line_of (Refusal.RoomTooShort needed) = line 12 needed tt
-line_of Refusal.NoDirection = line 13 0 tt
-line_of (Refusal.LargeNumber at) = line 19 at tt
+line_of (Refusal.TableEnds at) = line 1 at
+line_of (Refusal.PaddedNumber at) = line 2 at
+line_of (Refusal.OutOfRange at) = line 3 at
+line_of (Refusal.NotInTable at) = line 4 at
+line_of (Refusal.ZeroCode at) = line 5 at
+line_of (Refusal.NotAbove at) = line 6 at
+line_of (Refusal.TableGoesOn at) = line 7 at
+line_of (Refusal.TreeEnds at) = line 8 at
+line_of (Refusal.UnknownSymbol at) = line 9 at
+line_of (Refusal.TreeGoesOn at) = line 10 at
+line_of Refusal.TreeTooLong = line 11 4096
+line_of (Refusal.RoomTooShort needed) = line 12 needed
+line_of Refusal.NoDirection = line 13 0
+line_of (Refusal.LargeNumber at) = line 19 at
 
 abbrev pub code_of : Refusal → ℕ
 code_of refusal = (line_of refusal).code
@@ -53,16 +51,3 @@ answer_figure (Refused refusal) = refusal_figure refusal
 -- code times 2^32 plus figure
 abbrev pub packed : Answer → ℕ
 packed answer = answer_code answer * 2 ^ 32 + answer_figure answer
-
-both : (a b : Bool) → T (a && b) → T a × T b
-both true true h = (tt, tt)
-both false b h = elim h [ ]
-both true false h = elim h [ ]
-
--- no refusal has the code 0
-pub code_some : (refusal : Refusal) → 0 < code_of refusal
-code_some refusal = ltb→lt 0 (code_of refusal) (both (ltb 0 (code_of refusal)) (ltb (code_of refusal) 100) (line_of refusal).in_range).0
-
--- nor one that a second table's may have
-pub code_small : (refusal : Refusal) → code_of refusal < 100
-code_small refusal = ltb→lt (code_of refusal) 100 (both (ltb 0 (code_of refusal)) (ltb (code_of refusal) 100) (line_of refusal).in_range).1

@@ -2,9 +2,10 @@
 use Rattle.std.proofs.Common.{◌≡◌, ℕ, zero, suc, ◌+◌, ◌-◌, ◌*◌, ◌%◌, ◌^◌, ◌<◌, false, ◌≢◌, ℤ, pos, negsuc, ◌+ℤ◌, nat_abs, sym, refl, ap, ◌∙◌, lt_of_le_of_lt, le_of_lt, mul-le-mul_left, mul-lt-mul_of_pos_right, arith, pow_pos, pow-add, w64, SFits, to_z, of_z, ne_eqb}
 use mathlib.Core.Path.{subst⁻¹}
 use mir.ValLaws.{to_z_pos, to_z-of_z}
-use Rattle.theory.specs.MaxPlus.{number, added, added_nothing}
+use Rattle.theory.specs.MaxPlus.{number, added}
+use Rattle.theory.proofs.MaxPlus.{added_nothing}
 use Rattle.theory.specs.Arithmetic.{arithmetic}
-use Rattle.theory.specs.Bound.{mag_nat_abs}
+use Rattle.theory.proofs.Bound.{mag_nat_abs}
 use Rattle.arith.specs.Numbers.{number_of, weight_of, is_nothing, Stands, InSheet}
 use Rattle.arith.proofs.Sums.{narrowed}
 

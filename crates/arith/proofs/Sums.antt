@@ -3,7 +3,7 @@ use Rattle.std.proofs.Common.{◌≡◌, ℕ, zero, suc, ◌+◌, ◌%◌, ◌^�
 use lib.Signed.{le_z, non_neg}
 use mir.ValLaws.{to_z_pos, to_z-of_z}
 use Rattle.theory.specs.Arithmetic.{arithmetic, meaning, code_of, code_of-meaning}
-use Rattle.theory.specs.Bound.{within_meaning}
+use Rattle.theory.proofs.Bound.{within_meaning}
 use Rattle.arith.specs.Numbers.{number_of, weight_of, Stands, InSheet}
 use Rattle.arith.specs.Standing.{number_of_weight, weight_in_sheet, stands_small, greater_right, greater_left, within_in_sheet}
 

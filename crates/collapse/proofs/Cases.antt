@@ -14,7 +14,7 @@ use Rattle.model.specs.Table.{Table, Proper}
 use Rattle.theory.specs.Blocks.{block_of, block_count}
 use Rattle.theory.specs.Bisimulation as General
 use Rattle.theory.specs.Direction.{Direction, direction, Agree, CoarsestBlocks}
-use Rattle.theory.specs.Uses.{agreement}
+use Rattle.theory.proofs.Uses.{agreement}
 use Rattle.theory.specs.Collapse.{CollapsedByCoarsest}
 use Rattle.format.specs.Read.{Found, found, refused, table_read}
 use Rattle.format.specs.Written.{bytes_of}

@@ -7,8 +7,9 @@ use Rattle.model.specs.Table.{Table, Proper}
 use Rattle.theory.specs.Blocks.{block_of, block_count}
 use Rattle.theory.specs.Direction.{direction}
 use Rattle.theory.specs.Collapse.{CollapsedByCoarsest}
-use Rattle.theory.specs.CollapseProper.{collapsed_by_coarsest_proper}
-use Rattle.theory.specs.Shrink.{Shrinks, shrinks_proper}
+use Rattle.theory.proofs.CollapseProper.{collapsed_by_coarsest_proper}
+use Rattle.theory.specs.Shrink.{Shrinks}
+use Rattle.theory.proofs.Shrink.{shrinks_proper}
 use Rattle.format.specs.Read.{Found, found, table_read}
 use Rattle.format.specs.Written.{bytes_of}
 use Rattle.roundtrip.specs.Tables.{table_sound}

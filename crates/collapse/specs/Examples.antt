@@ -12,9 +12,12 @@ use Rattle.theory.specs.Arithmetic.{meaning}
 use Rattle.theory.specs.Weight.{value}
 use Rattle.theory.specs.Sheet.{sheet}
 use Rattle.theory.specs.Blocks.{block_of, block_count}
-use Rattle.theory.specs.Direction.{Direction, backward, forward, CoarsestBlocks, coarsest_blocks_unique}
-use Rattle.theory.specs.Collapse.{CollapsedByCoarsest, collapsed_by_coarsest_unique}
-use Rattle.theory.specs.Examples.{table_a, table_a_collapsed, table_b, table_c, table_d, table_e, table_f, g·a, examples as of-tables}
+use Rattle.theory.specs.Direction.{Direction, backward, forward, CoarsestBlocks}
+use Rattle.theory.proofs.Direction.{coarsest_blocks_unique}
+use Rattle.theory.specs.Collapse.{CollapsedByCoarsest}
+use Rattle.theory.proofs.Collapse.{collapsed_by_coarsest_unique}
+use Rattle.theory.specs.Examples.{table_a, table_a_collapsed, table_b, table_c, table_d, table_e, table_f, g·a}
+use Rattle.theory.proofs.Examples.{examples as of-tables}
 use Rattle.format.specs.Examples.{bytes_a}
 use Rattle.format.specs.Read.{found, many, transition_at, transitions_at, table_read}
 use Rattle.format.specs.Written.{bytes_of}

@@ -7,9 +7,12 @@ use Rattle.answers.specs.declared.Refusal.{Refusal}
 use Rattle.answers.specs.declared.Refusal.TheVariants.{RoomTooShort, NoDirection}
 use Rattle.model.specs.Table.{Table}
 use Rattle.theory.specs.Blocks.{block_of, block_count}
-use Rattle.theory.specs.Direction.{Direction, direction, CoarsestBlocks, coarsest_blocks_unique}
-use Rattle.theory.specs.Collapse.{CollapsedByCoarsest, collapsed_by_coarsest_unique}
-use Rattle.theory.specs.Shrink.{Shrinks, shrinks_unique}
+use Rattle.theory.specs.Direction.{Direction, direction, CoarsestBlocks}
+use Rattle.theory.proofs.Direction.{coarsest_blocks_unique}
+use Rattle.theory.specs.Collapse.{CollapsedByCoarsest}
+use Rattle.theory.proofs.Collapse.{collapsed_by_coarsest_unique}
+use Rattle.theory.specs.Shrink.{Shrinks}
+use Rattle.theory.proofs.Shrink.{shrinks_unique}
 use Rattle.format.specs.Read.{Found, found, refused, table_read}
 use Rattle.format.specs.Written.{bytes_of}
 use Rattle.roundtrip.specs.Tables.{table_sound}

@@ -11,9 +11,11 @@ use Rattle.model.specs.Tree.{Tree}
 use Rattle.theory.specs.Weight.{value}
 use Rattle.theory.specs.Direction.{direction}
 use Rattle.theory.specs.Collapse.{CollapsedByCoarsest}
-use Rattle.theory.specs.CollapseProper.{collapsed_by_coarsest_proper}
-use Rattle.theory.specs.Shrink.{Shrinks, shrinks_proper, shrinks_value}
-use Rattle.theory.specs.Sequence.{Sequence, start, collapse, sequence_value, sequence_again}
+use Rattle.theory.proofs.CollapseProper.{collapsed_by_coarsest_proper}
+use Rattle.theory.specs.Shrink.{Shrinks}
+use Rattle.theory.proofs.Shrink.{shrinks_proper, shrinks_value}
+use Rattle.theory.specs.Sequence.{Sequence, start, collapse}
+use Rattle.theory.proofs.Sequence.{sequence_value, sequence_again}
 use Rattle.format.specs.Read.{Found, found, refused, table_read}
 use Rattle.format.specs.Written.{bytes_of}
 use Rattle.roundtrip.specs.Tables.{table_sound, table_complete}

@@ -8,14 +8,17 @@ use Rattle.theory.specs.Below.{below_each}
 use Rattle.theory.specs.Blocks.{block_of, member}
 use Rattle.theory.specs.Direction.{Direction, backward, forward, CoarsestBlocks}
 use Rattle.theory.specs.Uses.{uses}
-use Rattle.theory.specs.Decision.{coarsest_test_sound}
+use Rattle.theory.proofs.Decision.{coarsest_test_sound}
 use Rattle.theory.specs.Collapse.{CollapsedByCoarsest}
-use Rattle.theory.specs.AddingUp.{member_names, AddedUp, sums_by_entries, added_collapsed_by_coarsest}
-use Rattle.theory.specs.OwnBlocks.{own_collapsed}
-use Rattle.theory.specs.Shrink.{Shrinks, last, more, shrinks_unique}
-use Rattle.theory.specs.Examples.{a→, table_b, proper_b, examples as of-tables}
+use Rattle.theory.specs.AddingUp.{AddedUp}
+use Rattle.theory.proofs.AddingUp.{member_names, sums_by_entries, added_collapsed_by_coarsest}
+use Rattle.theory.proofs.OwnBlocks.{own_collapsed}
+use Rattle.theory.specs.Shrink.{Shrinks, last, more}
+use Rattle.theory.proofs.Shrink.{shrinks_unique}
+use Rattle.theory.specs.Examples.{a→, table_b}
+use Rattle.theory.proofs.Examples.{proper_b, examples as of-tables}
 use Rattle.format.specs.Read.{found, many, transition_at, transitions_at, table_read}
-use Rattle.model.specs.Each.{each-get_or}
+use Rattle.model.proofs.Each.{each-get_or}
 use Rattle.roundtrip.specs.Tables.{table_sound}
 use Rattle.collapse.specs.Promises.{ShrinksTo}
 use Rattle.collapse.specs.Examples.{BlocksAre, Writes, bytes_b, blocks_exactly, table_exactly}

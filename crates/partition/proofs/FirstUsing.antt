@@ -8,7 +8,8 @@ use native.Mathlib.Omega.{arith}
 use borrow.Author.Count.{below_more}
 use lib.ListN.{length, get_or, set, length-set}
 use lib.Seq.{get_or-set_same, get_or-set_other}
-use Rattle.theory.specs.Blocks.{block_of, block_count, block_count_same, block_count_above, block_count_few}
+use Rattle.theory.specs.Blocks.{block_of, block_count, block_count_same, block_count_above}
+use Rattle.theory.proofs.Blocks.{block_count_few}
 use Rattle.partition.specs.Numbering.{FirstUsed}
 use Rattle.partition.proofs.Sharing.{older, newest, sharing_goes_on}
 

@@ -1,7 +1,8 @@
 -- The answers of weigh, blocks, collapse and shrink as code times 2^32 plus figure.
 use Rattle.std.specs.Prelude.{ℕ, ◌^◌, ◌<◌, ◌≡◌, cond, List, ℤ, get_or, take}
 use Rattle.std.proofs.Common.{sym, ap, ◌∙◌, arith}
-use Rattle.answers.specs.Numbers.{packed, code_some}
+use Rattle.answers.specs.Numbers.{packed}
+use Rattle.answers.proofs.Numbers.{code_some}
 use Rattle.answers.specs.declared.Answer.{Answer}
 use Rattle.answers.specs.declared.Answer.TheVariants.{Done, Refused}
 use Rattle.weigh.specs.declared.Weighing.{Weighing}

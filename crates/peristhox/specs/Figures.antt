@@ -15,7 +15,7 @@ use Rattle.format.specs.Read.{Found, found, refused, table_read}
 use Rattle.format.specs.Written.{bytes_of}
 use Rattle.roundtrip.specs.Tables.{table_sound}
 use Rattle.roundtrip.specs.Length.{table_length}
-use Rattle.roundtrip.specs.Reach.{figure_fits}
+use Rattle.roundtrip.proofs.Reach.{figure_fits}
 use Rattle.calls.specs.Answers.{checked, fits, fitted, rewritten_answer}
 
 module _ (table : List ℕ) (bytes : (i : ℕ) → get_or table i 0 < 256) where

@@ -4,16 +4,18 @@ use Rattle.std.proofs.Common.{arith}
 use Rattle.answers.specs.Numbers.{answer_figure}
 use Rattle.answers.specs.declared.Answer.{Answer}
 use Rattle.model.specs.Table.{Table, Proper}
-use Rattle.theory.specs.Blocks.{block_of, block_count, block_count_few}
+use Rattle.theory.specs.Blocks.{block_of, block_count}
+use Rattle.theory.proofs.Blocks.{block_count_few}
 use Rattle.theory.specs.Direction.{direction}
 use Rattle.theory.specs.Collapse.{CollapsedByCoarsest}
-use Rattle.theory.specs.CollapseProper.{collapsed_by_coarsest_proper}
-use Rattle.theory.specs.Shrink.{Shrinks, shrinks_proper}
+use Rattle.theory.proofs.CollapseProper.{collapsed_by_coarsest_proper}
+use Rattle.theory.specs.Shrink.{Shrinks}
+use Rattle.theory.proofs.Shrink.{shrinks_proper}
 use Rattle.format.specs.Read.{Found, found, refused, table_read}
 use Rattle.format.specs.Written.{bytes_of}
 use Rattle.roundtrip.specs.Tables.{table_sound}
 use Rattle.roundtrip.specs.Length.{table_length}
-use Rattle.roundtrip.specs.Reach.{figure_fits}
+use Rattle.roundtrip.proofs.Reach.{figure_fits}
 use Rattle.calls.specs.Answers.{fits}
 use Rattle.collapse.specs.Promises.{Blocks, BlocksFrom, blocks_answer, PutFrom, written, Collapses, ShrinksTo}
 use Rattle.collapse.specs.declared.Counted.{Counted}

@@ -16,14 +16,17 @@ use Rattle.theory.specs.Blocks.{block_of, blocks_few, block_count, block_count_s
 use Rattle.theory.specs.Direction.{Direction, CoarsestBlocks, Agree, other}
 use Rattle.theory.specs.Equality.{not_both}
 use Rattle.theory.specs.Profile.{SameProfile}
-use Rattle.theory.specs.Refinement.{Refining, refining_start, refining_split, refining_end, coarsest_by_profile}
-use Rattle.theory.specs.Uses.{grade, uses_known}
+use Rattle.theory.specs.Refinement.{Refining, refining_start, refining_split, refining_end}
+use Rattle.theory.proofs.Refinement.{coarsest_by_profile}
+use Rattle.theory.specs.Uses.{grade}
+use Rattle.theory.proofs.Uses.{uses_known}
 use Rattle.partition.specs.Members.{flag}
 use Rattle.partition.specs.Numbering.{Numbered, Started, FirstUsed}
 use Rattle.grouping.specs.Groups.{Same}
 use Rattle.refine.specs.Splits.{Settled, SplitUp, Splits, none, another}
 use Rattle.refine.proofs.Known.{uses_in, IndexOf, profiles_of, DependsIn}
 use Rattle.refine.proofs.Refined.{same_profile, independent, grade_shared}
+use Rattle.theory.proofs.Laws.{laws}
 
 -- a state that need not be looked at again
 abbrev pub Clean : List Bool → ℕ → Type 0
@@ -78,7 +81,7 @@ module _ {t : TableRecord} {d : Direction} {blocks : List ℕ} {dirty : List Boo
         proper = now.proper;
         numbered = split.numbered;
         dirty_long = split.dirty_long;
-        refining = refining_split (arithmetic t.arithmetic) t.states (grade t.arithmetic d (table_of t)) (uses_in t d) (uses_known t.arithmetic (table_of t) now.proper.transitions_proper d) D (block_of blocks) (block_of blocks')
+        refining = refining_split (arithmetic t.arithmetic) t.states (grade t.arithmetic d (table_of t)) (uses_in t d) (uses_known t.arithmetic (table_of t) now.proper.transitions_proper d) (laws t.arithmetic) D (block_of blocks) (block_of blocks')
             (Clean dirty) (Clean dirty') now.refining (record {
               elsewhere = split.elsewhere;
               parts = λ p q lp lq bp bq.

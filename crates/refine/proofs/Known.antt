@@ -11,7 +11,7 @@ use Rattle.tables.specs.Record.{row_at, rows_from, table_of, Holds}
 use Rattle.tables.specs.declared.TableRecord.{TableRecord}
 use Rattle.theory.specs.Arithmetic.{Weight}
 use Rattle.theory.specs.Direction.{Direction}
-use Rattle.model.specs.Each.{each_at}
+use Rattle.model.proofs.Each.{each_at}
 use Rattle.theory.specs.Profile.{Use}
 use Rattle.theory.specs.Uses.{uses}
 use Rattle.profiles.specs.Entries.{Entry}

@@ -9,7 +9,7 @@ use lib.ListN.{length, get_or, take}
 use lib.Seq.{get_or-take, get_or-drop, slice}
 use Rattle.model.specs.Table.{Each}
 use Rattle.theory.specs.Direction.{Direction, backward, forward}
-use Rattle.model.specs.Each.{each_at}
+use Rattle.model.proofs.Each.{each_at}
 use Rattle.uses.specs.Numbers.{limit, numbers_of, chosen, is_use_of, total_below, start_of, Indexed}
 use Rattle.uses.specs.Places.{each_number, number_met, each_chosen, met_chosen}
 use Rattle.uses.specs.Theory.{row_for}

@@ -1,5 +1,5 @@
 -- The steps of a refinement are those of the theory: profiles, dependence, and the start.
-use Prim.Native.Nat.{ℕ, zero, suc, ◌+◌, ◌-◌, ◌*◌, ◌/◌, ◌%◌, ◌<◌}
+use Prim.Native.Nat.{ℕ, zero, suc, ◌+◌, ◌*◌, ◌/◌, ◌%◌, ◌<◌}
 use mathlib.Core.Bool.{true}
 use mathlib.Core.List.{List, [], ◌∷◌, ◌++◌, map}
 use mathlib.Core.Logic.{◌↔◌}
@@ -14,7 +14,7 @@ use Rattle.tables.specs.Record.{Columns, row_at, table_of, Holds}
 use Rattle.tables.specs.declared.TableRecord.{TableRecord}
 use Rattle.theory.specs.Arithmetic.{arithmetic, meaning, meaning_same}
 use Rattle.theory.specs.Direction.{Direction, backward, forward, other}
-use Rattle.model.specs.Each.{each_implies, each_map, each_append, each_places}
+use Rattle.model.proofs.Each.{each_implies, each_map, each_append, each_places}
 use Rattle.theory.specs.Equality.{numbers}
 use Rattle.theory.specs.Profile.{Key, key_of, packed_sum, packed_profile, profile_packed, SameProfile, Independent}
 use Rattle.theory.specs.Sum.{only, sum-map, sum_same}
@@ -30,6 +30,7 @@ use Rattle.refine.proofs.Apart.{top_same, pack_same}
 use Rattle.refine.proofs.Known.{uses_in, IndexOf, profiles_of, DependsIn, transition, symbol_known, ranked, child_known, final_fits}
 use Rattle.tables.specs.Rows.{columns_of}
 use Rattle.refine.proofs.Listed.{listed_is, use_listed}
+use Rattle.theory.proofs.Laws.{laws}
 
 others_length : (k : ℕ) (qs : List ℕ) → k < length qs → suc (length (others k qs)) ≡ length qs
 others_length k [] l = absurd (omega arith)
@@ -108,9 +109,9 @@ module _ {t : TableRecord} (holds : Holds t (table_of t)) (proper : Proper (tabl
       pub same_profile : (p q : ℕ) → p < t.states → q < t.states
           → Same t.arithmetic (profiles_of t d starts list b p) (profiles_of t d starts list b q) ↔ SameProfile (arithmetic t.arithmetic) (uses_in t d) b p q
       same_profile p q lp lq = (
-        λ h. packed_profile (arithmetic t.arithmetic) (uses_in t d) numbers pack b
+        λ h. packed_profile (arithmetic t.arithmetic) (uses_in t d) numbers pack b (laws t.arithmetic)
             (each_use t.arithmetic (columns_of t) d t.count (ranked holds proper) _ (λ u lu tu. each_use t.arithmetic (columns_of t) d t.count (ranked holds proper) _ (λ v lv tv. tells d u v lu tu lv tv))) p q (λ j. sym (profile_sum p lp j) ∙ h j ∙ profile_sum q lq j),
-        λ s j. profile_sum p lp j ∙ profile_packed (arithmetic t.arithmetic) (uses_in t d) numbers pack b p q s j ∙ sym (profile_sum q lq j),
+        λ s j. profile_sum p lp j ∙ profile_packed (arithmetic t.arithmetic) (uses_in t d) numbers pack b (laws t.arithmetic) p q s j ∙ sym (profile_sum q lq j),
       )
 
   -- a state that depends on no renumbered state is independent

@@ -10,9 +10,10 @@ use Rattle.answers.specs.Numbers.{code_of, refusal_figure}
 use Rattle.numbers.specs.declared.NumberRead.{NumberRead}
 use Rattle.numbers.specs.declared.NumberRead.TheVariants.{Number, Refused}
 use Rattle.numbers.specs.Read.{number_at}
-use Rattle.numbers.specs.Causes.{Padded, TooLarge, Cause, number_cause}
+use Rattle.numbers.specs.Causes.{Padded, TooLarge, Cause}
+use Rattle.numbers.proofs.Causes.{number_cause}
 use Rattle.model.specs.Table.{Each, key, lower}
-use Rattle.model.specs.Each.{member_at}
+use Rattle.model.proofs.Each.{member_at}
 use Rattle.format.specs.Read.{Found, found, refused, after, provided, as_found, any, within, one_of, listed, many, transition_at, transitions_at, table_read}
 use Rattle.format.specs.Examples.{no_bytes, padded_final, no_arithmetic, unknown_state, zero_code, not_above, one_byte_more, large_final}
 

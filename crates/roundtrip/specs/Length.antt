@@ -1,13 +1,11 @@
 -- How long a table's written form is: at most 65,415 bytes (document 01, "Bytes").
 use Rattle.std.specs.Prelude.{ℕ, ◌+◌, ◌*◌, ◌≤◌, ◌<◌, ◌≡◌, List, [], ◌∷◌, ◌++◌, length, get_or}
-use Rattle.std.proofs.Common.{ap, ◌∙◌, arith, length-append}
-use Rattle.model.specs.Each.{each_implies, each-get_or}
+use Rattle.std.proofs.Common.{◌∙◌, arith, length-append}
+use Rattle.model.proofs.Each.{each_implies, each-get_or}
 use Rattle.model.specs.Table.{Table, Transition, Each, Proper, ProperTransition}
 use Rattle.numbers.specs.Written.{written, written_all}
-use Rattle.format.specs.Read.{found, table_read}
 use Rattle.format.specs.Written.{transition_numbers, transitions_numbers, bytes_of}
 use Rattle.roundtrip.specs.Numbers.{written_few, written_one, written_two}
-use Rattle.roundtrip.specs.Tables.{table_sound}
 
 -- the length of numbers one after another is the sum of their parts' lengths
 pub length_parts : (ms ns : List ℕ) → length (written_all (ms ++ ns)) ≡ length (written_all ms) + length (written_all ns)
@@ -101,8 +99,3 @@ table_length X proper =
       proper.finals_many,
       proper.transitions_few,
     )
-
--- no longer list of bytes is read as a table
-pub read_length : (s : List ℕ) → ((i : ℕ) → get_or s i 0 < 256) → (X : Table) (p : ℕ) → table_read s ≡ found X p → length s ≤ 65415
-read_length s small X p e =
-    let (proper, form, end) = table_sound s small X p e in omega (arith, ap length form, table_length X proper)

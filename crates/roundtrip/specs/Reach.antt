@@ -1,9 +1,8 @@
 -- How far a reading of a table reaches: no refusal's figure is above 65,416, and no answer depends on a byte behind the first 65,416.
 use Prim.Native.Nat.{ℕ, zero, suc, ◌+◌, ◌*◌, ◌-◌, ◌≤◌, ◌<◌, ◌^◌}
 use Rattle.std.specs.Prelude.{◌≡◌, refl, Bool, true, false, cond, ◌&&◌, take, T, leb, ltb, eqb}
-use Rattle.std.proofs.Common.{sym, ap, ◌∙◌, subst, arith, get_or-take, length-take-le, take_all}
+use Rattle.std.proofs.Common.{sym, ap, ◌∙◌, subst, arith, get_or-take, length-take-le}
 use mathlib.Core.List.{List, [], ◌∷◌}
-use Rattle.std.proofs.Math.Decide.{dec_lt}
 use Rattle.std.proofs.Math.ListN.{length, get_or}
 use borrow.Author.Tests.{lt-leb, leb-true}
 use Rattle.answers.specs.declared.Refusal.{Refusal}
@@ -13,7 +12,7 @@ use Rattle.numbers.specs.declared.NumberRead.{NumberRead}
 use Rattle.numbers.specs.declared.NumberRead.TheVariants.{Number, Refused}
 use Rattle.numbers.specs.Read.{with_lowest, more_from, number_at}
 use Rattle.numbers.specs.Written.{written}
-use Rattle.model.specs.Each.{each_implies, each-get_or}
+use Rattle.model.proofs.Each.{each_implies, each-get_or}
 use Rattle.model.specs.Table.{Table, Transition, Each, key, lower}
 use Rattle.format.specs.Written.{transition_numbers, transitions_numbers}
 use Rattle.roundtrip.specs.Numbers.{written_one, written_two, written_few}
@@ -78,9 +77,9 @@ module _ (s : List ℕ) where
     number_among at h = simp (inside at (omega arith), inside_cut at (omega arith), byte_among at (omega arith), more_among 3 at (at + 1) (omega arith))
 
 -- A reading of s beside the same reading of the first `size` bytes: it has no figure above `size`, and if s has so many bytes then the two find the same.
-record Early (s : List ℕ) (size : ℕ) {A : Type 0} (x cut : Found A) : Type 0 where
-  figure : (refusal : Refusal) → x ≡ refused refusal → refusal_figure refusal ≤ size
-  same : size ≤ length s → cut ≡ x
+pub record Early (s : List ℕ) (size : ℕ) {A : Type 0} (x cut : Found A) : Type 0 where
+  pub figure : (refusal : Refusal) → x ≡ refused refusal → refusal_figure refusal ≤ size
+  pub same : size ≤ length s → cut ≡ x
 
 module _ (s : List ℕ) (size : ℕ) where
   -- a value is no refusal
@@ -223,7 +222,7 @@ module _ (s : List ℕ) (small : (i : ℕ) → get_or s i 0 < 256) (size : ℕ) 
   final_narrow = narrow (λ n. n < 2 ^ 32) (any s) (any_reader s small) 5 (λ n h. written_few n)
 
   -- the whole table
-  early_table : 65416 ≤ size → Early s size (table_read s) (table_read (take size s))
+  pub early_table : 65416 ≤ size → Early s size (table_read s) (table_read (take size s))
   unfolding table_read
   early_table h =
       early_behind s size (within s 0 1 0) _ _ _ (early_within 0 1 0 (omega arith)) λ arithmetic at₁ e₁.
@@ -246,19 +245,3 @@ module _ (s : List ℕ) (small : (i : ℕ) → get_or s i 0 < 256) (size : ℕ) 
       early_behind s size (transitions_at s ranks states transitions [] at₆) _ _ _
       (early_transitions ranks states ranks_few states_few ranks_small transitions [] at₆ (omega arith)) λ ts end e₇.
       early_end _ end (omega (arith, transitions_narrow ranks states ranks_few states_few ranks_small transitions [] at₆ ts end e₇))
-
--- A refused table's figure is at most 65,416.
-pub table_figure : (s : List ℕ) → ((i : ℕ) → get_or s i 0 < 256) → (refusal : Refusal) → table_read s ≡ refused refusal → refusal_figure refusal ≤ 65416
-table_figure s small refusal e = (early_table s small 65416 (omega arith)).figure refusal e
-
--- It fits in 32 bits.
-pub figure_fits : (s : List ℕ) → ((i : ℕ) → get_or s i 0 < 256) → (refusal : Refusal) → table_read s ≡ refused refusal → refusal_figure refusal < 2 ^ 32
-figure_fits s small refusal e = omega (arith, table_figure s small refusal e)
-
--- No answer depends on a byte behind the first 65,416.
-pub later_bytes : (s : List ℕ) → ((i : ℕ) → get_or s i 0 < 256) → table_read (take 65416 s) ≡ table_read s
-later_bytes s small =
-    elim (dec_lt (length s) 65416) [
-      | yes h ↦ ap table_read (take_all 65416 s (omega arith))
-      | no h ↦ (early_table s small 65416 (omega arith)).same (omega arith)
-    ]

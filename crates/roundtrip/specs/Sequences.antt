@@ -1,7 +1,7 @@
 -- Numbers that stand one after another: how they are read, and that their bytes are theirs alone.
 use Rattle.std.specs.Prelude.{ℕ, ◌+◌, ◌≤◌, ◌<◌, ◌^◌, ◌≡◌, refl, List, [], ◌∷◌, ◌++◌, length, get_or, drop}
 use Rattle.std.proofs.Common.{sym, ap, ◌∙◌, subst, append_assoc, arith, length-append}
-use Rattle.model.specs.Each.{each_append}
+use Rattle.model.proofs.Each.{each_append}
 use Rattle.model.specs.Table.{Each}
 use Rattle.numbers.specs.Read.{number, number_at}
 use Rattle.numbers.specs.Written.{written, written_all}

@@ -7,7 +7,7 @@ use native.Mathlib.Omega.{arith}
 use Rattle.std.proofs.Math.ListN.{length}
 use Rattle.std.proofs.Math.Dec.{leb→le}
 use Rattle.answers.specs.declared.Refusal.TheVariants.{TableGoesOn}
-use Rattle.model.specs.Each.{each_append, each_implies, each-get_or}
+use Rattle.model.proofs.Each.{each_append, each_implies, each-get_or}
 use Rattle.model.specs.Table.{Table, Transition, Each, Proper, ProperTransition}
 use Rattle.format.specs.Read.{found, any, within, many, transitions_at, table_read}
 use Rattle.format.specs.Written.{transition_numbers, transitions_numbers, table_numbers, bytes_of}

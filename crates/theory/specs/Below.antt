@@ -2,9 +2,9 @@
 use Rattle.std.specs.Prelude.{◌≡◌, refl, ◌⊎◌, ◌≢◌, Bool, false, List, [], ◌∷◌, ℕ, zero, suc, ◌+◌, ◌<◌, ◌≤◌, eqb, length, get_or}
 use Rattle.std.proofs.Common.{ap, ap₂, ◌∙◌, subst, inl, inr, arith}
 use Rattle.model.specs.Table.{Each}
-use Rattle.model.specs.Each.{each_at}
+use Rattle.model.proofs.Each.{each_at}
 use Rattle.theory.specs.Equality.{numbers, equal_or_not, same_true, same_false, false_differ}
-use Rattle.theory.specs.Semiring.{Semiring}
+use Rattle.theory.specs.Semiring.{Semiring, Laws}
 use Rattle.theory.specs.Sum.{only, sum, zero_plus}
 use Rattle.theory.specs.Grouping.{Once}
 
@@ -41,15 +41,16 @@ get_or_below n q l = omega (arith, get_or-up_from 0 n q l)
 pub below_each : (P : ℕ → Type 0) (n : ℕ) → Each P (below n) → (q : ℕ) → q < n → P q
 below_each P n m q l = subst P (get_or_below n q l) (each_at P (below n) q 0 m (omega (arith, length-up_from 0 n)))
 
-module _ (S : Semiring) where
-  open S use {Carrier, zero as 𝟘, plus as ◌⊕◌, plus_zero}
+module _ (S : Semiring) (L : Laws S) where
+  open S use {Carrier, zero as 𝟘, plus as ◌⊕◌}
+  open L use {plus_zero}
 
   infixl 6 ◌⊕◌
   sum_past : (i k q : ℕ) (h : ℕ → Carrier) → q < i → sum S (up_from i k) (λ u. only S (eqb q u) (h u)) ≡ 𝟘
   sum_past i zero q h l = refl
   sum_past i (suc k) q h l =
       let e : eqb q i ≡ false = same_false numbers q i (λ d. omega arith) in
-      rw e (zero_plus S _ ∙ sum_past (suc i) k q h (omega arith))
+      rw e (zero_plus S L _ ∙ sum_past (suc i) k q h (omega arith))
 
   up_from_once : (i k q : ℕ) → i ≤ q → q < i + k → Once S numbers (up_from i k) q
   up_from_once i zero q l m h = absurd (omega arith)
@@ -59,7 +60,7 @@ module _ (S : Semiring) where
           → sum S (up_from i (suc k)) (λ u. only S (eqb q u) (h u)) ≡ h q
       go (inl e) ih = subst (λ (x : ℕ). only S (eqb q x) (h x) ⊕ sum S (up_from (suc i) k) (λ u. only S (eqb q u) (h u)) ≡ h q) e
           (ap₂ ◌⊕◌ (ap (λ (c : Bool). only S c (h q)) (same_true numbers q)) (sum_past (suc i) k q h (omega arith)) ∙ plus_zero (h q))
-      go (inr n) ih = let d : q ≢ i = false_differ numbers q i n in rw n (zero_plus S _ ∙ ih (omega arith))
+      go (inr n) ih = let d : q ≢ i = false_differ numbers q i n in rw n (zero_plus S L _ ∙ ih (omega arith))
 
   -- each number below n stands there once
   pub below_once : (n q : ℕ) → q < n → Once S numbers (below n) q

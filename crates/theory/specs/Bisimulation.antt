@@ -1,6 +1,6 @@
 -- Bisimulations, whatever it means that two states agree: what both directions share.
 use Rattle.std.specs.Prelude.{◌≡◌, ℕ, ◌<◌}
-use Rattle.theory.specs.Blocks.{Refines, FirstUse, first_use_unique}
+use Rattle.theory.specs.Blocks.{Refines}
 
 -- `Agree b p q` says that p and q, of n states, agree under the blocks b.
 module _ (n : ℕ) (Agree : (ℕ → ℕ) → ℕ → ℕ → Type 0) where
@@ -46,12 +46,6 @@ module _ (n : ℕ) (Agree : (ℕ → ℕ) → ℕ → ℕ → Type 0) where
     together = λ p q lp lq r. down.keeps p q lp lq (B.together p q lp lq r);
     related = λ p q lp lq e. B.related p q lp lq (up.keeps p q lp lq e);
   }
-
-  -- the coarsest blocks, numbered by first use, are determined
-  pub coarsest_unique : (b c : ℕ → ℕ) → FirstUse n b → FirstUse n c → Coarsest b → Coarsest c → (q : ℕ) → q < n → b q ≡ c q
-  coarsest_unique b c fb fc B C = first_use_unique n b c fb fc
-      (record { keeps = λ p q lp lq e. C.together p q lp lq (B.related p q lp lq e) })
-      (record { keeps = λ p q lp lq e. B.together p q lp lq (C.related p q lp lq e) })
 
   module _ (A : Agreement) where
     -- the coarsest blocks are a bisimulation

@@ -1,21 +1,20 @@
 -- Tests that compute: whether given blocks are the coarsest of a table. They prove worked examples.
-use Rattle.std.specs.Prelude.{◌≡◌, refl, Bool, true, false, not, ◌&&◌, ◌||◌, List, [], ◌∷◌, ℕ, zero, suc, ◌+◌, ◌<◌, ◌≤◌, T, eqb, leb, length}
-use Rattle.std.proofs.Common.{subst, arith, eqb→eq, leb→le}
+use Rattle.std.specs.Prelude.{◌≡◌, Bool, true, false, not, ◌&&◌, ◌||◌, List, [], ◌∷◌, ℕ, zero, suc, ◌+◌, ◌<◌, ◌≤◌, T, eqb, leb, length}
+use Rattle.std.proofs.Common.{subst, arith, eqb→eq}
 use Rattle.std.proofs.Math.Decide.{dec_lt}
 use Rattle.std.proofs.Math.Facts.{yes_and}
 use store.Enc.{and_l, and_r}
-use Rattle.model.specs.Table.{Table, Each, Proper}
-use Rattle.model.specs.Each.{each_implies}
+use Rattle.model.specs.Table.{Table, Each}
+use Rattle.model.proofs.Each.{each_implies}
 use Rattle.theory.specs.Equality.{numbers, equal_same}
 use Rattle.theory.specs.Below.{below, up_from}
-use Rattle.theory.specs.Semiring.{Semiring}
+use Rattle.theory.specs.Semiring.{Semiring, Laws}
 use Rattle.theory.specs.Arithmetic.{arithmetic}
-use Rattle.theory.specs.Blocks.{block_of, block_count, FirstUse}
+use Rattle.theory.specs.Blocks.{block_of, block_count}
 use Rattle.theory.specs.Bisimulation as General
-use Rattle.theory.specs.Direction.{Direction, CoarsestBlocks}
+use Rattle.theory.specs.Direction.{Direction}
 use Rattle.theory.specs.Profile.{Use, key_of, profile, profile_met, Alike, alike_agreement}
-use Rattle.theory.specs.Uses.{uses, uses_known, grade}
-use Rattle.theory.specs.Refinement.{coarsest_by_profile}
+use Rattle.theory.specs.Uses.{uses, grade}
 
 -- the test holds of each member
 abbrev pub all : {A : Type 0} → List A → (A → Bool) → Bool
@@ -77,62 +76,45 @@ module _ (S : Semiring) (n : ℕ) (grade : ℕ → S.Carrier) (uses : List (Use 
   reach_test b [] last = all_pairs n (stay_test b (block_of last)) && all_pairs n (share_test (block_of last))
   reach_test b (c ∷ cs) last = all_pairs n (stay_test b (block_of c)) && reach_test (block_of c) cs last
 
-  alike_test_sound : (b : ℕ → ℕ) (p q : ℕ) → T (alike_test b p q) → Alike S n grade uses b p q
-  alike_test_sound b p q t = (
-    S.equality.same_equal (grade p) (grade q) (and_l (S.equality.same (grade p) (grade q)) (all uses (level_test b p q)) t),
-    profile_met S uses b p q (each_implies (λ u. T (level_test b p q u)) _ (λ u s _. S.equality.same_equal _ _ s) uses
-        (all_each uses (level_test b p q) (and_r (S.equality.same (grade p) (grade q)) (all uses (level_test b p q)) t))),
-  )
+  module _ (L : Laws S) where
+    alike_test_sound : (b : ℕ → ℕ) (p q : ℕ) → T (alike_test b p q) → Alike S n grade uses b p q
+    alike_test_sound b p q t = (
+      S.equality.same_equal (grade p) (grade q) (and_l (S.equality.same (grade p) (grade q)) (all uses (level_test b p q)) t),
+      profile_met S uses L b p q (each_implies (λ u. T (level_test b p q u)) _ (λ u s _. S.equality.same_equal _ _ s) uses
+          (all_each uses (level_test b p q) (and_r (S.equality.same (grade p) (grade q)) (all uses (level_test b p q)) t))),
+    )
 
-  alike_test_complete : (b : ℕ → ℕ) (p q : ℕ) → Alike S n grade uses b p q → T (alike_test b p q)
-  alike_test_complete b p q h = yes_and (S.equality.same (grade p) (grade q)) (all uses (level_test b p q)) (equal_same S.equality (grade p) (grade q) h.0)
-      (all_of uses (level_test b p q) (λ u. equal_same S.equality _ _ (h.1 (key_of b u))))
+    alike_test_complete : (b : ℕ → ℕ) (p q : ℕ) → Alike S n grade uses b p q → T (alike_test b p q)
+    alike_test_complete b p q h = yes_and (S.equality.same (grade p) (grade q)) (all uses (level_test b p q)) (equal_same S.equality (grade p) (grade q) h.0)
+        (all_of uses (level_test b p q) (λ u. equal_same S.equality _ _ (h.1 (key_of b u))))
 
-  module _ (known : Each (λ u. Each (λ r. r < n) u.through) uses) where
-    stay_covers : (b c : ℕ → ℕ) → T (all_pairs n (stay_test b c)) → General.Covers n (Alike S n grade uses) b → General.Covers n (Alike S n grade uses) c
-    stay_covers b c t = General.split_covers n (Alike S n grade uses) (alike_agreement S n grade uses known) b c
-        (λ p q lp lq e h. eqb→eq (c p) (c q) (implies_holds (eqb (b p) (b q) && alike_test b p q) (eqb (c p) (c q)) (all_pairs_at n (stay_test b c) t p q lp lq)
-        (yes_and (eqb (b p) (b q)) (alike_test b p q) (equal_same numbers (b p) (b q) e) (alike_test_complete b p q h))))
+    module _ (known : Each (λ u. Each (λ r. r < n) u.through) uses) where
+      stay_covers : (b c : ℕ → ℕ) → T (all_pairs n (stay_test b c)) → General.Covers n (Alike S n grade uses) b → General.Covers n (Alike S n grade uses) c
+      stay_covers b c t = General.split_covers n (Alike S n grade uses) (alike_agreement S n grade uses L known) b c
+          (λ p q lp lq e h. eqb→eq (c p) (c q) (implies_holds (eqb (b p) (b q) && alike_test b p q) (eqb (c p) (c q)) (all_pairs_at n (stay_test b c) t p q lp lq)
+          (yes_and (eqb (b p) (b q)) (alike_test b p q) (equal_same numbers (b p) (b q) e) (alike_test_complete b p q h))))
 
-    pub reach_test_coarsest : (b : ℕ → ℕ) (cs : List (List ℕ)) (last : List ℕ) → General.Covers n (Alike S n grade uses) b → T (reach_test b cs last)
-        → General.Coarsest n (Alike S n grade uses) (block_of last)
-    reach_test_coarsest b [] last up t = General.covers_coarsest n (Alike S n grade uses) (block_of last)
-        (record {
-          agree = λ p q lp lq e. alike_test_sound (block_of last) p q (implies_holds (eqb (block_of last p) (block_of last q)) (alike_test (block_of last) p q)
-              (all_pairs_at n (share_test (block_of last)) (and_r (all_pairs n (stay_test b (block_of last))) (all_pairs n (share_test (block_of last))) t) p q lp lq)
-              (equal_same numbers (block_of last p) (block_of last q) e));
-        })
-        (stay_covers b (block_of last) (and_l (all_pairs n (stay_test b (block_of last))) (all_pairs n (share_test (block_of last))) t) up)
-    reach_test_coarsest b (c ∷ cs) last up t = reach_test_coarsest (block_of c) cs last
-        (stay_covers b (block_of c) (and_l (all_pairs n (stay_test b (block_of c))) (reach_test (block_of c) cs last) t) up)
-        (and_r (all_pairs n (stay_test b (block_of c))) (reach_test (block_of c) cs last) t)
+      pub reach_test_coarsest : (b : ℕ → ℕ) (cs : List (List ℕ)) (last : List ℕ) → General.Covers n (Alike S n grade uses) b → T (reach_test b cs last)
+          → General.Coarsest n (Alike S n grade uses) (block_of last)
+      reach_test_coarsest b [] last up t = General.covers_coarsest n (Alike S n grade uses) (block_of last)
+          (record {
+            agree = λ p q lp lq e. alike_test_sound (block_of last) p q (implies_holds (eqb (block_of last p) (block_of last q)) (alike_test (block_of last) p q)
+                (all_pairs_at n (share_test (block_of last)) (and_r (all_pairs n (stay_test b (block_of last))) (all_pairs n (share_test (block_of last))) t) p q lp lq)
+                (equal_same numbers (block_of last p) (block_of last q) e));
+          })
+          (stay_covers b (block_of last) (and_l (all_pairs n (stay_test b (block_of last))) (all_pairs n (share_test (block_of last))) t) up)
+      reach_test_coarsest b (c ∷ cs) last up t = reach_test_coarsest (block_of c) cs last
+          (stay_covers b (block_of c) (and_l (all_pairs n (stay_test b (block_of c))) (reach_test (block_of c) cs last) t) up)
+          (and_r (all_pairs n (stay_test b (block_of c))) (reach_test (block_of c) cs last) t)
 
 -- the blocks are numbered by first use
 abbrev pub first_use_test : ℕ → (ℕ → ℕ) → Bool
 first_use_test n b = all (below n) (λ q. leb (b q) (block_count b q))
 
-first_use_test_sound : (n : ℕ) (b : ℕ → ℕ) → T (first_use_test n b) → FirstUse n b
-first_use_test_sound n b t = record { next = λ q l. leb→le (b q) (block_count b q) (all_below n (λ q. leb (b q) (block_count b q)) t q l) }
-
 module _ (d : Direction) (X : Table) where
-  abbrev reaches : List (List ℕ) → List ℕ → Bool
+  abbrev pub reaches : List (List ℕ) → List ℕ → Bool
   reaches between last = reach_test (arithmetic X.arithmetic) X.states (grade X.arithmetic d X) (uses X.arithmetic d X.transitions) (λ q. 0) between last
 
   -- `last` has the coarsest blocks of the table, reached from one block over those in between
   abbrev pub coarsest_test : List (List ℕ) → List ℕ → Bool
   coarsest_test between last = eqb (length last) X.states && (first_use_test X.states (block_of last) && reaches between last)
-
-  pub coarsest_test_sound : Proper X → (between : List (List ℕ)) (last : List ℕ) → T (coarsest_test between last) → CoarsestBlocks d X last
-  coarsest_test_sound proper between last t = record {
-    one_each = eqb→eq (length last) X.states (and_l (eqb (length last) X.states) others t);
-    first_use = first_use_test_sound X.states (block_of last) (and_l (first_use_test X.states (block_of last)) (reaches between last) rest);
-    coarsest = coarsest_by_profile d X proper (block_of last) (reach_test_coarsest (arithmetic X.arithmetic) X.states (grade X.arithmetic d X) (uses X.arithmetic d X.transitions)
-        (uses_known X.arithmetic X proper.transitions_proper d) (λ q. 0) between last (λ c h. record { keeps = λ p q lp lq e. refl })
-        (and_r (first_use_test X.states (block_of last)) (reaches between last) rest));
-  }
-    where
-      others : Bool
-      others = first_use_test X.states (block_of last) && reaches between last
-
-      rest : T others
-      rest = and_r (eqb (length last) X.states) others t

@@ -1,6 +1,6 @@
 -- Backward and forward bisimulation of a table (document 01, "Definitions"; source 001, definitions 16 and 1).
 use Rattle.std.specs.Prelude.{◌≢◌, ◌≡◌, refl, List, ◌∷◌, ◌++◌, map, ℕ, zero, suc, ◌-◌, ◌≤◌, ◌<◌, eqb, length}
-use Rattle.std.proofs.Common.{sym, ap, ◌∙◌, subst, arith, ext_get_or}
+use Rattle.std.proofs.Common.{ap, arith}
 use Rattle.model.specs.Table.{Table, Each}
 use Rattle.theory.specs.Equality.{same_list}
 use Rattle.theory.specs.Sum.{only, sum}
@@ -72,8 +72,3 @@ pub record CoarsestBlocks (d : Direction) (X : Table) (blocks : List ℕ) : Type
   pub one_each : length blocks ≡ X.states
   pub coarsest : Coarsest d X (block_of blocks)
   pub first_use : FirstUse X.states (block_of blocks)
-
--- there is only one such list
-pub coarsest_blocks_unique : (d : Direction) (X : Table) (bs cs : List ℕ) → CoarsestBlocks d X bs → CoarsestBlocks d X cs → bs ≡ cs
-coarsest_blocks_unique d X bs cs one two = ext_get_or 0 bs cs (one.one_each ∙ sym two.one_each) (λ q l.
-    General.coarsest_unique X.states (Agree X.arithmetic X d) (block_of bs) (block_of cs) one.first_use two.first_use one.coarsest two.coarsest q (subst (λ (n : ℕ). q < n) one.one_each l))

@@ -5,14 +5,14 @@ use Rattle.std.proofs.Math.Bool.{and_comm}
 use mathlib.Core.List.{List, [], ◌∷◌, ◌++◌, map, Memᴰ}
 use Rattle.std.proofs.Math.Facts.{and_yes}
 use Rattle.model.specs.Table.{Transition, Each, key, Ascending}
-use Rattle.model.specs.Each.{each_implies}
+use Rattle.model.proofs.Each.{each_implies}
 use Rattle.theory.specs.Equality.{numbers, lists, same_list, same_list_equal, same_list_last, equal_same}
 use Rattle.theory.specs.Sum.{only, sum_same, only_zero}
 use Rattle.theory.specs.Grouping.{key_sum}
-use Rattle.theory.specs.Arithmetic.{arithmetic, Weight, meaning, meaning_zero}
+use Rattle.theory.specs.Arithmetic.{arithmetic, Weight, meaning}
 use Rattle.theory.specs.Weight.{entering, leaving}
 use Rattle.theory.specs.Order.{list_order}
-use Rattle.theory.specs.Listing.{Rising, listed, listed_member, listed_holds, listings_met, listing_unique, sum_listed}
+use Rattle.theory.specs.Listing.{Rising, listed, listed_member, listed_holds, listings_met, listing_unique}
 
 -- the key of a transition of σ with children qs and target q
 abbrev pub key_at : ℕ → List ℕ → ℕ → List ℕ
@@ -31,7 +31,7 @@ abbrev pub code_at : List Transition → List ℕ → ℕ
 code_at [] k = 0
 code_at (t ∷ ts) k = cond (same_list (key t) k) t.code (code_at ts k)
 
-code_at_listed : (ts : List Transition) (k : List ℕ) → code_at ts k ≡ listed lists list_order key (λ t. t.code) 0 ts k
+pub code_at_listed : (ts : List Transition) (k : List ℕ) → code_at ts k ≡ listed lists list_order key (λ t. t.code) 0 ts k
 code_at_listed [] k = refl
 code_at_listed (t ∷ ts) k = ap (cond (same_list (key t) k) t.code) (code_at_listed ts k)
 
@@ -79,9 +79,6 @@ module _ (a : ℕ) where
   -- the summed weights of the transitions with a key
   abbrev pub weight_at_key : List Transition → List ℕ → Weight a
   weight_at_key ts k = key_sum (arithmetic a) lists ts key (λ t. meaning a t.code) k
-
-  pub weight_at_key_listed : (ts : List Transition) → Ascending [] ts → (k : List ℕ) → weight_at_key ts k ≡ meaning a (code_at ts k)
-  weight_at_key_listed ts up k = sum_listed lists list_order key (λ t. t.code) 0 (arithmetic a) (meaning a) (meaning_zero a) [] k ts (ascending_rising [] ts up) ∙ ap (meaning a) (sym (code_at_listed ts k))
 
   only_three : (s l e : Bool) (w : Weight a) → only (arithmetic a) l (only (arithmetic a) (s && e) w) ≡ only (arithmetic a) (s && (l && e)) w
   only_three true true e w = refl

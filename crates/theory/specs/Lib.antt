@@ -21,14 +21,8 @@ pub mod Order
 pub mod Listing
 pub mod Entry
 pub mod Collapse
-pub mod BlockWeight
-pub mod CollapseProper
 pub mod AddingUp
-pub mod OwnBlocks
-pub mod CollapsedSums
 pub mod Words
-pub mod KeptWeight
-pub mod CollapseAgain
 pub mod Sequence
 pub mod Shrink
 pub mod Decision

@@ -4,7 +4,7 @@ use Rattle.std.proofs.Common.{sym, ap, ap₂, ◌∙◌, subst, inl, inr, arith}
 use mathlib.Core.List.{List, [], ◌∷◌, Memᴰ}
 use Rattle.model.specs.Table.{Each}
 use Rattle.theory.specs.Equality.{Equality, equal_or_not, same_true, same_false, same_comm}
-use Rattle.theory.specs.Semiring.{Semiring}
+use Rattle.theory.specs.Semiring.{Semiring, Laws}
 use Rattle.theory.specs.Sum.{only, sum, zero_plus}
 use Rattle.theory.specs.Grouping.{without, without_fewer, without_member, key_sum}
 use Rattle.theory.specs.Order.{Order}
@@ -85,18 +85,18 @@ module _ {X K W : Type 0} (E : Equality K) (O : Order K) (key : X → K) (value 
       go false h = h
 
   -- the sum for a key is what is listed for it
-  pub sum_listed : (S : Semiring) (m : W → S.Carrier) → m none ≡ S.zero → (i k : K) (xs : List X) → Rising i xs
+  pub sum_listed : (S : Semiring) (L : Laws S) (m : W → S.Carrier) → m none ≡ S.zero → (i k : K) (xs : List X) → Rising i xs
       → key_sum S E xs key (λ x. m (value x)) k ≡ m (listed xs k)
-  sum_listed S m z i k [] r = sym z
-  sum_listed S m z i k (x ∷ xs) r = go (equal_or_not E (key x) k) (λ j. sum_listed S m z (key x) j xs r.1)
+  sum_listed S L m z i k [] r = sym z
+  sum_listed S L m z i k (x ∷ xs) r = go (equal_or_not E (key x) k) (λ j. sum_listed S L m z (key x) j xs r.1)
     where
       go : (key x ≡ k) ⊎ (E.same (key x) k ≡ false) → ((j : K) → sum S xs (λ y. only S (E.same (key y) j) (m (value y))) ≡ m (listed xs j))
           → sum S (x ∷ xs) (λ y. only S (E.same (key y) k) (m (value y))) ≡ m (listed (x ∷ xs) k)
       go (inl e) ih = subst (λ (j : K). S.plus (only S (E.same (key x) j) (m (value x))) (sum S xs (λ y. only S (E.same (key y) j) (m (value y)))) ≡ m (listed (x ∷ xs) j)) e
           (ap₂ S.plus (ap (λ (c : Bool). only S c (m (value x))) (same_true E (key x))) (ih (key x) ∙ ap m (listed_below (key x) xs r.1) ∙ z)
-          ∙ S.plus_zero (m (value x)) ∙ sym (ap m (listed_first x xs)))
+          ∙ L.plus_zero (m (value x)) ∙ sym (ap m (listed_first x xs)))
       go (inr e) ih = ap (λ (c : Bool). S.plus (only S c (m (value x))) (sum S xs (λ y. only S (E.same (key y) k) (m (value y))))) e
-          ∙ zero_plus S _ ∙ ih k ∙ sym (ap m (listed_skip x xs k e))
+          ∙ zero_plus S L _ ∙ ih k ∙ sym (ap m (listed_skip x xs k e))
 
   -- lists that list the same for the keys of their entries list the same for each key
   pub listings_met : (xs ys : List X) → ((x : X) → Memᴰ x xs → listed xs (key x) ≡ listed ys (key x)) → ((y : X) → Memᴰ y ys → listed xs (key y) ≡ listed ys (key y))

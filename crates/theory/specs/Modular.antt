@@ -1,9 +1,9 @@
 -- Arithmetic 0: the numbers below 2^32, with sum and product modulo 2^32.
 use Rattle.std.specs.Prelude.{◌≡◌, ℕ, ◌+◌, ◌*◌, ◌%◌, ◌/◌, ◌^◌, ◌<◌, eqb}
-use Rattle.std.proofs.Common.{sym, ap, ◌∙◌, arith, mod-eq_of_lt, add_comm, add_assoc, mul_comm, mul_assoc, mul-add, add-mul, mul-one, mul-zero, add-zero, eqb→eq}
+use Rattle.std.proofs.Common.{sym, ap, ◌∙◌, arith, mod-eq_of_lt, mul_comm, mul_assoc, add-mul, eqb→eq}
 use mathlib.Core.HLevel.{Σ_prop_path}
 use Rattle.std.proofs.Math.Bridge.{le_prop}
-use Rattle.std.proofs.Math.Nat.{mod-add-mod, add-mod-mod, mod-add-div, add-mul-mod_self_left}
+use Rattle.std.proofs.Math.Nat.{mod-add-div, add-mul-mod_self_left}
 use Rattle.std.proofs.Math.Dec.{eqb_refl}
 use Rattle.theory.specs.Semiring.{Semiring}
 
@@ -33,9 +33,6 @@ remainder_times m a b = sym (add-mul-mod_self_left (a % m * b) m (a / m * b))
 pub times_remainder : (m a b : ℕ) → (a * (b % m)) % m ≡ (a * b) % m
 times_remainder m a b = ap (λ (x : ℕ). x % m) (mul_comm a (b % m)) ∙ remainder_times m b a ∙ ap (λ (x : ℕ). x % m) (mul_comm b a)
 
-abbrev modulo : {x y : ℕ} → x ≡ y → x % 2 ^ 32 ≡ y % 2 ^ 32
-modulo e = ap (λ (x : ℕ). x % 2 ^ 32) e
-
 abbrev pub modular : Semiring
 modular = record {
   Carrier = Residue;
@@ -44,13 +41,4 @@ modular = record {
   plus = λ a b. residue (a.0 + b.0);
   times = λ a b. residue (a.0 * b.0);
   equality = record { same = λ a b. eqb a.0 b.0; same_equal = λ a b t. residue_same (eqb→eq a.0 b.0 t); same_self = λ a. eqb_refl a.0 };
-  plus_comm = λ a b. ap residue (add_comm a.0 b.0);
-  plus_assoc = λ a b c. residue_same (mod-add-mod (a.0 + b.0) (2 ^ 32) c.0 ∙ modulo (add_assoc a.0 b.0 c.0) ∙ sym (add-mod-mod a.0 (b.0 + c.0) (2 ^ 32)));
-  plus_zero = λ a. residue_same (modulo (add-zero a.0) ∙ mod-eq_of_lt a.1);
-  times_comm = λ a b. ap residue (mul_comm a.0 b.0);
-  times_assoc = λ a b c. residue_same (remainder_times (2 ^ 32) (a.0 * b.0) c.0 ∙ modulo (mul_assoc a.0 b.0 c.0) ∙ sym (times_remainder (2 ^ 32) a.0 (b.0 * c.0)));
-  times_one = λ a. residue_same (modulo (mul-one a.0) ∙ mod-eq_of_lt a.1);
-  times_zero = λ a. residue_same (modulo (mul-zero a.0));
-  times_plus = λ a b c. residue_same (times_remainder (2 ^ 32) a.0 (b.0 + c.0) ∙ modulo (mul-add a.0 b.0 c.0)
-      ∙ sym (mod-add-mod (a.0 * b.0) (2 ^ 32) (a.0 * c.0 % 2 ^ 32) ∙ add-mod-mod (a.0 * b.0) (a.0 * c.0) (2 ^ 32)));
 }

@@ -1,13 +1,11 @@
 -- Refinement of blocks by profiles: what holds while blocks are split, and that it ends at the coarsest bisimulation.
 use Rattle.std.specs.Prelude.{◌≡◌, ◌⊎◌, ◌≢◌, ◌↔◌, false, List, ℕ, ◌<◌, eqb}
 use Rattle.std.proofs.Common.{sym, ◌∙◌, inl, inr}
-use Rattle.model.specs.Table.{Table, Each, Proper}
+use Rattle.model.specs.Table.{Each}
 use Rattle.theory.specs.Equality.{numbers, equal_or_not, false_differ}
-use Rattle.theory.specs.Semiring.{Semiring}
+use Rattle.theory.specs.Semiring.{Semiring, Laws}
 use Rattle.theory.specs.Bisimulation as General
-use Rattle.theory.specs.Direction.{Direction, Agree, Coarsest}
 use Rattle.theory.specs.Profile.{Use, SameProfile, Independent, profile_kept, Alike, alike_agreement}
-use Rattle.theory.specs.Uses.{AgreeByProfile, agree_profile, profile_agree}
 
 module _ (S : Semiring) (n : ℕ) (grade : ℕ → S.Carrier) (uses : List (Use S.Carrier)) (known : Each (λ u. Each (λ r. r < n) u.through) uses) where
   -- b are the present blocks; a state that is not clean has to be looked at again
@@ -33,7 +31,7 @@ module _ (S : Semiring) (n : ℕ) (grade : ℕ → S.Carrier) (uses : List (Use 
     pub cleared : (p : ℕ) → p < n → Clean' p → b p ≢ D → Clean p
     pub marked : (p : ℕ) → p < n → Clean' p → Independent S uses b b' p
 
-  module _ (D : ℕ) (b b' : ℕ → ℕ) (Clean Clean' : ℕ → Type 0) (before : Refining b Clean) (split : Split D b b' Clean Clean') where
+  module _ (L : Laws S) (D : ℕ) (b b' : ℕ → ℕ) (Clean Clean' : ℕ → Type 0) (before : Refining b Clean) (split : Split D b b' Clean Clean') where
     -- parts of one block
     split_refines : (p q : ℕ) → p < n → q < n → b' p ≡ b' q → ((b p ≡ D) × (b q ≡ D)) ⊎ ((b p ≢ D) × (b q ≢ D) × (b p ≡ b q))
     split_refines p q lp lq e = go (equal_or_not numbers (b p) D) (equal_or_not numbers (b q) D)
@@ -48,7 +46,7 @@ module _ (S : Semiring) (n : ℕ) (grade : ℕ → S.Carrier) (uses : List (Use 
     -- a split keeps what holds
     pub refining_split : Refining b' Clean'
     refining_split = record {
-      covers = General.split_covers n (Alike S n grade uses) (alike_agreement S n grade uses known) b b' stay before.covers;
+      covers = General.split_covers n (Alike S n grade uses) (alike_agreement S n grade uses L known) b b' stay before.covers;
       graded = λ p q lp lq e. elim (split_refines p q lp lq e) [ inl r ↦ before.graded p q lp lq (r.0 ∙ sym r.1) | inr r ↦ before.graded p q lp lq r.2 ];
       settled = settled;
     }
@@ -71,9 +69,3 @@ module _ (S : Semiring) (n : ℕ) (grade : ℕ → S.Carrier) (uses : List (Use 
   pub refining_end : (b : ℕ → ℕ) (Clean : ℕ → Type 0) → Refining b Clean → ((q : ℕ) → q < n → Clean q) → General.Coarsest n (Alike S n grade uses) b
   refining_end b Clean r c = General.covers_coarsest n (Alike S n grade uses) b
       (record { agree = λ p q lp lq e. (r.graded p q lp lq e, r.settled p q lp lq (c p lp) (c q lq) e) }) r.covers
-
--- the coarsest blocks by profiles are the coarsest blocks of the table
-pub coarsest_by_profile : (d : Direction) (X : Table) → Proper X → (b : ℕ → ℕ) → General.Coarsest X.states (AgreeByProfile X.arithmetic X d) b → Coarsest d X b
-coarsest_by_profile d X proper b = General.coarsest_same X.states (AgreeByProfile X.arithmetic X d) (Agree X.arithmetic X d)
-    (λ b p q. profile_agree X.arithmetic X proper.transitions_proper b p q d)
-    (λ b p q. agree_profile X.arithmetic X proper.transitions_proper b p q d) b

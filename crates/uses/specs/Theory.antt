@@ -9,13 +9,14 @@ use Rattle.tables.specs.Record.{Columns, row_at, rows_from}
 use Rattle.theory.specs.Arithmetic.{arithmetic, Weight, meaning}
 use Rattle.theory.specs.Below.{up_from, below, each_below}
 use Rattle.theory.specs.Direction.{Direction, backward, forward}
-use Rattle.model.specs.Each.{each_implies, each_map, each-flat_map}
+use Rattle.model.proofs.Each.{each_implies, each_map, each-flat_map}
 use Rattle.theory.specs.Profile.{Use, counted}
-use Rattle.theory.specs.Semiring.{Semiring}
+use Rattle.theory.specs.Semiring.{Semiring, Laws}
 use Rattle.theory.specs.Sum.{only, sum, sum_same, sum-each, sum-map, sum-flat_map, only_comm, zero_plus}
 use Rattle.theory.specs.Uses.{uses, use_into, use_at}
 use Rattle.uses.specs.Numbers.{places, number_at, limit, use_test, state_of, numbers_of, is_use_of, uses_of}
 use Rattle.uses.specs.Places.{sum_numbers, sum_chosen}
+use Rattle.theory.proofs.Laws.{laws}
 
 -- the transition that the use u is of
 abbrev pub row_for : Direction → ℕ → ℕ
@@ -41,13 +42,13 @@ rows_numbered c i zero = refl
 rows_numbered c i (suc n) = ap (◌∷◌ (row_at c i)) (rows_numbered c (suc i) n)
 
 -- a sum over the first r of four places
-sum_first : (S : Semiring) (r : ℕ) (f : ℕ → S.Carrier) → r ≤ 4 → sum S (below r) f ≡ sum S (below 4) (λ k. only S (ltb k r) (f k))
-sum_first S zero f l = simp (zero_plus S)
-sum_first S (suc zero) f l = simp (zero_plus S)
-sum_first S (suc (suc zero)) f l = simp (zero_plus S)
-sum_first S (suc (suc (suc zero))) f l = simp (zero_plus S)
-sum_first S (suc (suc (suc (suc zero)))) f l = refl
-sum_first S (suc (suc (suc (suc (suc r))))) f l = absurd (omega arith)
+sum_first : (S : Semiring) (L : Laws S) (r : ℕ) (f : ℕ → S.Carrier) → r ≤ 4 → sum S (below r) f ≡ sum S (below 4) (λ k. only S (ltb k r) (f k))
+sum_first S L zero f l = simp (zero_plus S L)
+sum_first S L (suc zero) f l = simp (zero_plus S L)
+sum_first S L (suc (suc zero)) f l = simp (zero_plus S L)
+sum_first S L (suc (suc (suc zero))) f l = simp (zero_plus S L)
+sum_first S L (suc (suc (suc (suc zero)))) f l = refl
+sum_first S L (suc (suc (suc (suc (suc r))))) f l = absurd (omega arith)
 
 -- the place k of transition j
 pub place_row : (j k : ℕ) → k < 4 → (j * 4 + k) / 4 ≡ j
@@ -66,7 +67,7 @@ module _ (a : ℕ) (c : Columns) where
   one_row j f many few =
       sum-map (arithmetic a) (use_at a (row_at c j)) (below (length (row_at c j).children)) f
       ∙ ap (λ (r : ℕ). sum (arithmetic a) (below r) (λ k. f (use_at a (row_at c j) k))) many
-      ∙ sum_first (arithmetic a) (rank_at c j) (λ k. f (use_at a (row_at c j) k)) few
+      ∙ sum_first (arithmetic a) (laws a) (rank_at c j) (λ k. f (use_at a (row_at c j) k)) few
       ∙ sum-each (arithmetic a) (λ k. k < 4) (below 4) (each_below 4) (λ k. only (arithmetic a) (ltb k (rank_at c j)) (f (use_at a (row_at c j) k))) (λ k. numbered forward f (number_at forward k j))
       (λ k l. rw (place_row j k l, place_place j k l))
 
@@ -77,8 +78,8 @@ module _ (a : ℕ) (c : Columns) where
       ∙ sum-map (arithmetic a) (row_at c) (below count) _
       ∙ sum_same (arithmetic a) (below count) _ _ (λ j.
       let e : j ≡ number_at backward 0 j = omega arith in
-      ap (λ (i : ℕ). f (use_into a (row_at c i))) e ∙ sym ((arithmetic a).plus_zero _)))
-  by_rows forward count h f = rw (rows_numbered c 0 count) (sum-flat_map (arithmetic a) _ (map (row_at c) (below count)) f
+      ap (λ (i : ℕ). f (use_into a (row_at c i))) e ∙ sym ((laws a).plus_zero _)))
+  by_rows forward count h f = rw (rows_numbered c 0 count) (sum-flat_map (arithmetic a) (laws a) _ (map (row_at c) (below count)) f
       ∙ sum-map (arithmetic a) (row_at c) (below count) _
       ∙ sum-each (arithmetic a) (λ j. j < count) (below count) (each_below count) _ _ (λ j l. one_row j f (h j l).0 (h j l).1))
 
@@ -116,9 +117,9 @@ module _ (a : ℕ) (c : Columns) where
       ≡ sum (arithmetic a) (uses_of d count c.ranks c.symbol c.children c.target p) (λ u. only (arithmetic a) (g (use_of a d c u)) (meaning a (get_or c.code (row_for d u) 0)))
   sum_of_state d count p h g =
       by_rows d count h _
-      ∙ sym (sum_numbers (arithmetic a) d count _)
+      ∙ sym (sum_numbers (arithmetic a) (laws a) d count _)
       ∙ sum_same (arithmetic a) (numbers_of d count) _ _ (λ u. adds u (use_test d c.ranks c.symbol u) refl)
-      ∙ sym (sum_chosen (arithmetic a) (is_use_of d c.ranks c.symbol c.children c.target p) (numbers_of d count) _)
+      ∙ sym (sum_chosen (arithmetic a) (laws a) (is_use_of d c.ranks c.symbol c.children c.target p) (numbers_of d count) _)
     where
       adds : (u : ℕ) (t : Bool) → use_test d c.ranks c.symbol u ≡ t
           → only (arithmetic a) t (only (arithmetic a) (g (use_of a d c u)) (counted (arithmetic a) p (use_of a d c u)))

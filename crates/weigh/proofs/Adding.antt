@@ -18,6 +18,7 @@ use Rattle.weigh.specs.Steps.{Replaced}
 use Rattle.weigh.proofs.Bounds.{stands_weight, stands_good}
 use Rattle.weigh.proofs.Replacing.{replaced_one}
 use Rattle.weigh.proofs.Sums.{sum_more, sum_range}
+use Rattle.theory.proofs.Laws.{laws}
 
 -- the same sources with another sheet
 abbrev pub with_sheet : Sources → List ℤ → Sources
@@ -42,14 +43,15 @@ module _ (a : ℕ) (s : Sources) (sheet : List ℤ) (rank j : ℕ) (same : (k : 
 
 -- one transition more
 module _ (a : ℕ) (s : Sources) (target : List ℕ) (rank from j : ℕ) (after : from ≤ j) where
-  open arithmetic a use {plus, plus_zero}
+  open arithmetic a use {plus}
+  open laws a use {plus_zero}
 
   sum_into_more : (q : ℕ) → sum_into a s target rank from (j + 1) q
       ≡ plus (sum_into a s target rank from j q) (only (arithmetic a) (eqb (get_or target j 0) q) (row_product a s rank j))
   sum_into_more q =
       let one_more : j + 1 - from ≡ suc (j - from) = omega arith in
       let last : from + (j - from) ≡ j = omega arith in
-      rw one_more (sum_more (arithmetic a) (λ i. only (arithmetic a) (eqb (get_or target i 0) q) (row_product a s rank i)) from (j - from)
+      rw one_more (sum_more (arithmetic a) (laws a) (λ i. only (arithmetic a) (eqb (get_or target i 0) q) (row_product a s rank i)) from (j - from)
       ∙ rw last)
 
   sum_into_own : sum_into a s target rank from (j + 1) (get_or target j 0) ≡ plus (sum_into a s target rank from j (get_or target j 0)) (row_product a s rank j)

@@ -8,7 +8,7 @@ use mir.Syntax.{w64}
 use mir.Val.{to_z, of_z}
 use mir.ValLaws.{to_z-of_z}
 use Rattle.theory.specs.Arithmetic.{arithmetic, Weight, meaning, meaning_zero}
-use Rattle.theory.specs.Bound.{within_more, within_greater, within_added, within_meaning}
+use Rattle.theory.proofs.Bound.{within_more, within_greater, within_added, within_meaning}
 use Rattle.arith.specs.Numbers.{number_of, weight_of, Stands, InSheet}
 use Rattle.arith.specs.Standing.{weight_number, number_stands, within_in_sheet}
 use Rattle.weigh.specs.Numbers.{Bounded, StandsFor, Good}

@@ -13,7 +13,7 @@ use lib.ListN.{length, get_or, take, drop, length-drop}
 use lib.Seq.{length-take-le, get_or-take, get_or-drop}
 use Rattle.model.specs.Table.{Table, Each, ProperTransition}
 use Rattle.model.specs.Tree.{node}
-use Rattle.model.specs.Each.{each_at}
+use Rattle.model.proofs.Each.{each_at}
 use Rattle.theory.specs.Sum.{only, only_times, zero_times}
 use Rattle.theory.specs.Arithmetic.{arithmetic, Weight, meaning}
 use Rattle.theory.specs.Weight.{weight_at, product_at}
@@ -31,6 +31,7 @@ use Rattle.weigh.proofs.Transitions.{sum_rows, range_ordered, range_symbol}
 use Rattle.weigh.proofs.Sums.{sum_part, sum_range}
 use Rattle.weigh.proofs.Products.{product_of-product_at}
 use Rattle.weigh.proofs.Filling.{Filling, filling_stands}
+use Rattle.theory.proofs.Laws.{laws}
 
 -- what holds at a node: its row can be filled from these sources, and what is filled in are the weights of its subtree
 pub record NodeReady (X : Table) (tree : List ℕ) (s : Sources) (target : List ℕ) (row : Row) : Type 0 where
@@ -190,12 +191,12 @@ module _ {a n symbols count : ℕ} {finals : List ℕ} {c : Columns} {tree : Lis
       summand q j = summand_if (eqb (get_or c.symbol j 0) (get_or tree at 0)) q j
 
       other_symbol : (q j : ℕ) → (get_or c.symbol j 0 ≡ get_or tree at 0 → ⊥) → summand q j ≡ (arithmetic a).zero
-      other_symbol q j differ = ap (λ (own : Bool). summand_if own q j) (ne_eqb (get_or c.symbol j 0) (get_or tree at 0) differ) ∙ zero_times (arithmetic a) _
+      other_symbol q j differ = ap (λ (own : Bool). summand_if own q j) (ne_eqb (get_or c.symbol j 0) (get_or tree at 0) differ) ∙ zero_times (arithmetic a) (laws a) _
 
       own_summand : (q j : ℕ) → here.from ≤ j → j < here.to → summand q j ≡ only (arithmetic a) (eqb (get_or c.target j 0) q) (row_product a from_here here.rank j)
       own_summand q j l m =
           ap (λ (own : Bool). summand_if own q j) (eq-eqb (get_or c.symbol j 0) (get_or tree at 0) (own_symbol j l m))
-          ∙ only_times (arithmetic a) (eqb (get_or c.target j 0) q) (meaning a (get_or c.code j 0)) _
+          ∙ only_times (arithmetic a) (laws a) (eqb (get_or c.target j 0) q) (meaning a (get_or c.code j 0)) _
           ∙ ap (only (arithmetic a) (eqb (get_or c.target j 0) q)) (sym (product_is j l m))
 
       -- the children on the stack are the node's
@@ -208,7 +209,7 @@ module _ {a n symbols count : ℕ} {finals : List ℕ} {c : Columns} {tree : Lis
       node_weight q =
           sym (ap (λ t. weight_at a X t q) subtree_here
           ∙ sum_rows (arithmetic a) _ c 0 count
-          ∙ sum_part (arithmetic a) (summand q) here.from here.to count (range_ordered c.symbol count (get_or tree at 0) here.from here.to first ends) ends.within
+          ∙ sum_part (arithmetic a) (laws a) (summand q) here.from here.to count (range_ordered c.symbol count (get_or tree at 0) here.from here.to first ends) ends.within
           (λ j l. other_symbol q j (λ e. let less = first.below j l in omega arith))
           (λ j l m. other_symbol q j (λ e. let more = ends.above j l m in omega arith))
           ∙ sum_range (arithmetic a) (summand q) _ here.from (here.to - here.from) (λ j l m. own_summand q j l (let ordered = range_ordered c.symbol count (get_or tree at 0) here.from here.to first ends in omega arith)))

@@ -11,11 +11,13 @@ use Rattle.theory.specs.Weight.{weight_at, product_at}
 use Rattle.arith.specs.Numbers.{weight_of}
 use Rattle.trees.specs.Subtrees.{subtree, subtrees}
 use Rattle.weigh.specs.Rows.{Sources, child_number, own_number, times_children, row_product}
+use Rattle.theory.proofs.Laws.{laws}
 
 -- `nodes` are where the children begin, and `states` are the states of transition j for them
 module _ (a : ℕ) (X : Table) (tree : List ℕ) (s : Sources) (rank j : ℕ) (nodes states : List ℕ) (enough-nodes : rank ≤ length nodes) (enough-states : rank ≤ length states)
     (child : (k : ℕ) → k < rank → weight_of a (child_number s j k) ≡ weight_at a X (subtree X.ranks tree (get_or nodes k 0)) (get_or states k 0)) where
-  open arithmetic a use {times, times_one, times_assoc}
+  open arithmetic a use {times}
+  open laws a use {times_one, times_assoc}
 
   times_children-product_at : (m k : ℕ) → k + m ≤ rank → (w : Weight a)
       → times_children a s j w k m ≡ times w (product_at a X (subtrees X.ranks tree (take m (drop k nodes))) (take m (drop k states)))

@@ -7,7 +7,7 @@ use native.Mathlib.Nat.{zero-mul, mul-le-mul_right, one-mul}
 use lib.IntN.{ℤ, pos}
 use lib.ListN.{length, get_or, take, drop}
 use lib.Seq.{get_or-take}
-use Rattle.model.specs.Each.{each_at}
+use Rattle.model.proofs.Each.{each_at}
 use Rattle.theory.specs.Sum.{sum}
 use Rattle.theory.specs.Below.{below}
 use Rattle.theory.specs.Arithmetic.{arithmetic, meaning}

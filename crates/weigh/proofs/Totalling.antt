@@ -12,6 +12,7 @@ use Rattle.arith.specs.Numbers.{number_of, weight_of}
 use Rattle.weigh.specs.Numbers.{StandsFor}
 use Rattle.weigh.proofs.Bounds.{stands_sum, stands_zero}
 use Rattle.weigh.proofs.Sums.{sum_more}
+use Rattle.theory.proofs.Laws.{laws}
 
 -- x stands for the sum of f over q states
 pub record Totalling (a n : ℕ) (f : ℕ → Weight a) (q : ℕ) (x : ℤ) : Type 0 where
@@ -26,7 +27,7 @@ module _ (a n : ℕ) (f : ℕ → Weight a) where
       → (r : ℤ) → r ≡ number_of a ((arithmetic a).plus (weight_of a x) (weight_of a y)) → Totalling a n f (q + 1) r
   totalling_goes_on q x so_far more y own r e =
       let one_more : sum (arithmetic a) (below (q + 1)) f ≡ (arithmetic a).plus (sum (arithmetic a) (below q) f) (f q) =
-      rw (add-one q) (sum_more (arithmetic a) f 0 q ∙ ap (λ (j : ℕ). (arithmetic a).plus (sum (arithmetic a) (below q) f) (f j)) (zero-add q)) in
+      rw (add-one q) (sum_more (arithmetic a) (laws a) f 0 q ∙ ap (λ (j : ℕ). (arithmetic a).plus (sum (arithmetic a) (below q) f) (f j)) (zero-add q)) in
       record { some = omega arith; stands = rw one_more (stands_sum a 4097 (omega arith) _ (f q) x y so_far.stands own r e) }
 
   pub totalling_ends : (q : ℕ) (x : ℤ) → Totalling a n f q x → n ≤ q → x ≡ number_of a (sum (arithmetic a) (below n) f)

@@ -8,8 +8,8 @@ use lib.ListN.{length, get_or, drop, length-append, length-drop}
 use lib.Seq.{drop-cons}
 use Rattle.model.specs.Table.{Table, Transition, Each, Proper, ProperTransition}
 use Rattle.model.specs.Tree.{Tree, prefix, prefixes}
-use Rattle.model.specs.Each.{each_implies}
-use Rattle.theory.specs.Bound.{within_more, weight_at_within}
+use Rattle.model.proofs.Each.{each_implies}
+use Rattle.theory.proofs.Bound.{within_more, weight_at_within}
 use Rattle.theory.specs.Weight.{weight_at}
 use Rattle.trees.specs.Forests.{take_trees, drop_trees}
 use Rattle.trees.specs.Finished.{finished, prefixes_finished}

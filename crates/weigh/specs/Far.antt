@@ -3,11 +3,12 @@ use Rattle.std.specs.Prelude.{ℕ, zero, suc, ◌+◌, ◌*◌, ◌≤◌, ◌<�
 use Rattle.std.proofs.Common.{sym, ap, ◌∙◌, subst, inl, inr, arith}
 use Rattle.model.specs.Table.{Table, Proper, ProperTransition}
 use Rattle.model.specs.Tree.{Tree, prefix}
-use Rattle.model.specs.Each.{each_implies}
+use Rattle.model.proofs.Each.{each_implies}
 use Rattle.theory.specs.MaxPlus.{Value, nothing, number}
 use Rattle.theory.specs.Arithmetic.{value_of, sheet_number}
 use Rattle.theory.specs.Weight.{weight, value}
-use Rattle.theory.specs.Bound.{Within, within_more, weight_within}
+use Rattle.theory.specs.Bound.{Within}
+use Rattle.theory.proofs.Bound.{within_more, weight_within}
 use Rattle.answers.specs.declared.Refusal.TheVariants.{RoomTooShort}
 use Rattle.format.specs.Read as format
 use Rattle.roundtrip.specs.Tables.{table_sound}

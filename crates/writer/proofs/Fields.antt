@@ -4,7 +4,7 @@ use mathlib.Core.Path.{◌≡◌, ap}
 use native.Mathlib.Omega.{arith}
 use lib.ListN.{length, get_or, take}
 use lib.Seq.{get_or-take}
-use Rattle.model.specs.Each.{each-get_or}
+use Rattle.model.proofs.Each.{each-get_or}
 use Rattle.model.specs.Table.{ProperTransition}
 use Rattle.numbers.specs.Written.{written, written_all}
 use Rattle.format.specs.Written.{transitions_numbers, bytes_of}

@@ -11,7 +11,7 @@ const WITH_PROOFS: &[(&str, &str)] = &[
     ("theory/specs/Modular.antt", "residue"),
     ("theory/specs/Modular.antt", "modular"),
     ("theory/specs/MaxPlus.antt", "values"),
-    ("theory/specs/MaxPlus.antt", "maxPlus"),
+    ("theory/specs/MaxPlus.antt", "max_plus"),
 ];
 
 /// These definitions, and those that they name in turn. Elsewhere than in a proof a declaration that nothing unfolds is an error: if
@@ -47,7 +47,7 @@ mod tests {
 data Forest : Type 0 where
   none : Forest
 ";
-    const WEIGHTS: &str = "use Rattle·a.specs.Trees.{Tree, node}
+    const WEIGHTS: &str = "use Rattle.a.specs.Trees.{Tree, node}
 abbrev weight : Tree → ℕ
 weight (node ts) = one
   + one
@@ -92,7 +92,7 @@ false = law
     #[test]
     fn a_name_that_its_file_does_not_declare_is_an_error() {
         let mut sources = sources();
-        let text = "use Rattle·a.specs.Trees.{Leaf}\nabbrev f : Leaf\nf = 0\n";
+        let text = "use Rattle.a.specs.Trees.{Leaf}\nabbrev f : Leaf\nf = 0\n";
         sources.add("a/specs/Other.antt", text).unwrap();
         assert!(closure(&sources, sources.find("a/specs/Other.antt", "f")).is_err());
     }

@@ -17,7 +17,7 @@ const CRATES: &[&str] = &["calls", "weigh", "collapse", "peristhox"];
 pub struct Contract {
     pub function: String,
     pub parameters: Vec<String>,
-    /// the text between the braces of its `requires` and `ensures`
+    /// the text between the braces of each clause
     pub texts: Vec<String>,
 }
 
@@ -83,10 +83,13 @@ pub fn contracts(source: &str) -> Vec<Contract> {
         };
         while at < all.len() && !matches!(text(at), "{" | ";") {
             if matches!(text(at), "requires" | "ensures") {
-                let end = group_end(&all, at + 1).min(all.len() - 1);
+                // a clause may have a name
+                let open = (at..all.len()).find(|&k| text(k) == "{");
+                let open = open.unwrap_or(all.len() - 1);
+                let end = group_end(&all, open).min(all.len() - 1);
                 contract
                     .texts
-                    .push(source[all[at + 1].at + 1..all[end].at].trim().to_string());
+                    .push(source[all[open].at + 1..all[end].at].trim().to_string());
                 at = end;
             } else if all[at].opens() {
                 at = group_end(&all, at);
@@ -111,24 +114,25 @@ mod tests {
 
     const FILE: &str = "
 // pub fn none() {}
-ghost use Rattle·a·specs.specs.Answers.{Checks, Fits};
+ghost use Rattle.a.specs.Answers.{Checks, Fits};
 
 fn private(x: u8) -> u8
-    ensures { λ r. ⌜ Hidden r ⌝ }
+    ensures { Hidden result }
 {
     x
 }
 
 pub fn pick<'a>(first: &'a [u8], number: [u8; 4]) -> &'a [u8]
-    requires { ⌜ Fits number {A = ℕ} ⌝ }
-    ensures { λ r. ⌜ Checks (now (first .entry)) r ⌝ }
+    requires { Fits number {A = ℕ} }
+    ensures answer { Checks first.now result }
+    ensures same { result ≡ first }
 {
     first
 }
 
-#[no_mangle]
+#[unsafe(no_mangle)]
 pub extern \"C\" fn call(Checks: u64) -> u64
-    ensures { λ r. ⌜ r ≡ Checks ⌝ }
+    ensures { result ≡ Checks }
 {
     Checks
 }
@@ -146,8 +150,9 @@ pub extern \"C\" fn call(Checks: u64) -> u64
         assert_eq!(
             found[0].texts,
             [
-                "⌜ Fits number {A = ℕ} ⌝",
-                "λ r. ⌜ Checks (now (first .entry)) r ⌝"
+                "Fits number {A = ℕ}",
+                "Checks first.now result",
+                "result ≡ first"
             ]
         );
     }

@@ -52,11 +52,11 @@ impl Item {
     }
 }
 
-/// A name without the places of its arguments: `_then_` is also met as `then`.
+/// A name without the places of its arguments: `◌then◌` is also met as `then`.
 pub fn bare(name: &str) -> &str {
     let inner = name
-        .strip_prefix('_')
-        .and_then(|name| name.strip_suffix('_'));
+        .strip_prefix('◌')
+        .and_then(|name| name.strip_suffix('◌'));
     inner.filter(|inner| !inner.is_empty()).unwrap_or(name)
 }
 
@@ -66,8 +66,9 @@ mod tests {
 
     #[test]
     fn the_places_of_arguments_are_taken_off() {
-        assert_eq!(bare("_then_"), "then");
+        assert_eq!(bare("◌then◌"), "then");
+        assert_eq!(bare("◌"), "◌");
         assert_eq!(bare("_"), "_");
-        assert_eq!(bare("weightAt"), "weightAt");
+        assert_eq!(bare("weight_at"), "weight_at");
     }
 }

@@ -169,8 +169,17 @@ impl<'a> Walk<'a> {
         self.bound.extend(words.map(|token| token.text.to_string()));
     }
 
+    /// Of `a.b` it is not known here whether b is in a module of another name a, or a field of a: both are met.
     fn met(&mut self, name: &str) {
-        if !self.bound.iter().any(|bound| bound == name) {
+        let first = name.split('.').next().unwrap_or(name);
+        if self
+            .bound
+            .iter()
+            .any(|bound| bound == name || bound == first)
+        {
+            return;
+        }
+        for name in [name, first] {
             self.found.insert(bare(name).to_string());
         }
     }
@@ -222,9 +231,15 @@ mod tests {
         let file = "record R (table : A) : Type 0 where\n  last : B\n  is : (t : C) → P table last t\n  so : t\n";
         assert_eq!(names(file), ["A", "B", "C", "P", "t"]);
         assert_eq!(
-            names("abbrev f : A\nf = record { states = x .states; finals = y }\n"),
+            names("abbrev f : A\nf = record { states = (x y).states; finals = y }\n"),
             ["A", "record", "x", "y"]
         );
+    }
+
+    #[test]
+    fn a_field_belongs_to_the_name_before_it() {
+        let file = "abbrev f : (x : A) → B\nf x = g x.states m.ranks\n";
+        assert_eq!(names(file), ["A", "B", "g", "m", "m.ranks"]);
     }
 
     #[test]
@@ -235,7 +250,7 @@ mod tests {
 
     #[test]
     fn an_opened_name_stands_for_what_is_opened() {
-        let open = "module _ (a : N) where\n  open Semiring (arithmetic a) using (zero as 𝟘, times as _⊗_)\n";
+        let open = "module _ (a : N) where\n  open Semiring (arithmetic a) using (zero as 𝟘, times as ◌⊗◌)\n";
         let file = format!("{open}  abbrev f : A\n  f = x ⊗ y\n");
         assert_eq!(names(&file), ["A", "N", "Semiring", "arithmetic", "x", "y"]);
         let file = format!("{open}  abbrev f : A\n  f = x\n");

@@ -8,6 +8,7 @@ use std::path::Path;
 use crate::item::{bare, Item, Kind};
 use crate::names::names_of;
 use crate::read::items;
+use crate::theorems;
 use crate::uses::{Origin, Uses};
 
 /// A declaration: its file, as `model/specs/Tree.antt`, and its place among those of the file.
@@ -28,7 +29,7 @@ struct Source {
 }
 
 impl Sources {
-    /// Reads the definitions of all crates below a folder.
+    /// Reads the definitions of all crates below a folder, and the theorems that stand in proofs/.
     pub fn load(crates: &Path) -> io::Result<Sources> {
         let mut sources = Sources::default();
         for krate in sorted(crates)? {
@@ -39,6 +40,10 @@ impl Sources {
                     sources.add(&path, &text).map_err(io::Error::other)?;
                 }
             }
+        }
+        for path in theorems::proof_files() {
+            let text = fs::read_to_string(crates.join(path))?;
+            sources.add(path, &text).map_err(io::Error::other)?;
         }
         Ok(sources)
     }

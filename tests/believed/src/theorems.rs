@@ -7,63 +7,76 @@ const THEOREMS: &[(&str, &[&str])] = &[
     (
         "collapse/specs/Sequences.antt",
         &[
-            "done-collapsing",
-            "weights-kept",
-            "same-bytes",
-            "same-bytes-with-room",
-            "shrink-kept",
+            "done_collapsing",
+            "weights_kept",
+            "same_bytes",
+            "same_bytes_with_room",
+            "shrink_kept",
         ],
     ),
     ("collapse/specs/Examples.antt", &["examples"]),
     (
         "collapse/specs/Enough.antt",
-        &["blocks-enough", "collapse-enough", "shrink-enough"],
+        &["blocks_enough", "collapse_enough", "shrink_enough"],
     ),
     (
         "roundtrip/specs/",
         &[
-            "one-form",
-            "table-sound",
-            "table-complete",
-            "one-table",
-            "table-length",
+            "one_form",
+            "table_sound",
+            "table_complete",
+            "one_table",
+            "table_length",
             "longest",
-            "read-length",
-            "later-bytes",
-            "figure-fits",
-            "written-means",
-            "written-fewest",
+            "written_means",
+            "written_fewest",
             "table-codes",
-            "codes-occur",
-            "table-means",
+            "codes_occur",
+            "table_means",
         ],
     ),
+    ("answers/proofs/Numbers.antt", &["in_range"]),
+    ("roundtrip/proofs/Length.antt", &["read_length"]),
     (
-        "numbers/specs/Causes.antt",
-        &["number-cause", "cause-refused", "never-padded-and-large"],
+        "roundtrip/proofs/Reach.antt",
+        &["later_bytes", "figure_fits"],
+    ),
+    (
+        "numbers/proofs/Causes.antt",
+        &["number_cause", "cause_refused", "never_padded_and_large"],
     ),
     (
         "trees/specs/Written.antt",
-        &["sound", "complete", "one-tree"],
+        &["sound", "complete", "one_tree"],
     ),
-    ("weigh/specs/Sheets.antt", &["sheet-entry"]),
-    ("weigh/specs/Far.antt", &["weigh-near"]),
-    ("peristhox/specs/Faces.antt", &["face-collapsing"]),
-    ("peristhox/specs/Alike.antt", &["weighed-alike"]),
+    ("weigh/specs/Sheets.antt", &["sheet_entry"]),
+    ("weigh/specs/Far.antt", &["weigh_near"]),
+    ("peristhox/specs/Faces.antt", &["face_collapsing"]),
+    ("peristhox/specs/Alike.antt", &["weighed_alike"]),
     (
         "peristhox/specs/Told.antt",
         &[
-            "check-tells",
-            "rewrite-tells",
-            "weigh-tells",
-            "blocks-tells",
-            "collapse-tells",
-            "shrink-tells",
+            "check_tells",
+            "rewrite_tells",
+            "weigh_tells",
+            "blocks_tells",
+            "collapse_tells",
+            "shrink_tells",
         ],
     ),
-    ("theory/specs/Bound.antt", &["weight-bound"]),
-    ("theory/specs/Equivalence.antt", &["equivalence-blocks"]),
+    ("theory/proofs/Laws.antt", &["laws"]),
+    ("theory/proofs/Bound.antt", &["weight_bound"]),
+    ("theory/specs/Equivalence.antt", &["equivalence_blocks"]),
 ];
+
+/// The files below proofs/ that hold such theorems. An edit of a definition makes them fail, and the gate reads that as a refusal only
+/// where they stand there.
+pub fn proof_files() -> impl Iterator<Item = &'static str> {
+    THEOREMS
+        .iter()
+        .map(|(place, _)| *place)
+        .filter(|place| place.contains("/proofs/"))
+}
 
 /// What the statements of these theorems name, the parameters of the modules that they stand in included.
 pub fn roots(sources: &Sources) -> Result<Vec<Id>, String> {

@@ -95,8 +95,8 @@ mod tests {
     #[test]
     fn names_have_marks_and_dots_inside() {
         assert_eq!(
-            texts("g·a-weighs (a→ x) trees.Nodes"),
-            ["g·a-weighs", "(", "a→", "x", ")", "trees.Nodes"]
+            texts("g·a_weighs (a→ x) trees.Nodes"),
+            ["g·a_weighs", "(", "a→", "x", ")", "trees.Nodes"]
         );
     }
 
@@ -111,13 +111,13 @@ mod tests {
 
     #[test]
     fn a_projection_is_no_word() {
-        let text = "(X .states) .0";
+        let text = "(f X).states .0";
         let words: Vec<&str> = tokens(text)
             .iter()
             .filter(|t| t.is_word())
             .map(|t| t.text)
             .collect();
-        assert_eq!(words, ["X"]);
+        assert_eq!(words, ["f", "X"]);
     }
 
     #[test]

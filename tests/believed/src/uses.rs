@@ -4,6 +4,9 @@ use std::collections::HashMap;
 
 use crate::item::bare;
 
+/// The libraries of the toolchain whose definitions a file may use.
+const KIT: &[&str] = &["core", "std"];
+
 /// Where a name comes from.
 #[derive(Clone, PartialEq, Eq, Debug)]
 pub enum Origin {
@@ -65,21 +68,22 @@ impl Uses {
         let (path, last) = name.rsplit_once('.')?;
         match self.aliases.get(path) {
             Some(path) => Some(origin(&format!("{path}.{last}"))),
-            None => name.starts_with("Rattle·").then(|| origin(name)),
+            None => name.starts_with("Rattle.").then(|| origin(name)),
         }
     }
 }
 
 /// What a whole path names.
 fn origin(path: &str) -> Origin {
-    let Some(rest) = path.strip_prefix("Rattle·") else {
+    let Some(rest) = path.strip_prefix("Rattle.") else {
         return Origin::Kit;
     };
     let parts: Vec<&str> = rest.split('.').collect();
     match parts[..] {
+        [krate, ..] if KIT.contains(&krate) => Origin::Kit,
         [_, "specs", "declared", ..] => Origin::Declared,
         [krate, "specs", module, name] => Origin::Specs {
-            file: format!("{}/specs/{module}.antt", krate.trim_end_matches("·specs")),
+            file: format!("{krate}/specs/{module}.antt"),
             name: bare(name).to_string(),
         },
         _ => Origin::Other(path.to_string()),
@@ -91,15 +95,16 @@ mod tests {
     use super::*;
 
     const LINES: &str = "use lib.Dec.{leb}
-use Rattle·model.specs.Tree.{
+use Rattle.std.specs.Prelude.{ℕ, ◌+◌, get_or}
+use Rattle.model.specs.Tree.{
   Tree,
-  _then_
+  ◌then◌
 }
-use Rattle·theory·specs.specs.Weight.{weight as ownWeight}
-use Rattle·theory·specs.specs.Bisimulation as General
-use Rattle·trees.specs.declared.TreeRead.the-variants as trees
-ghost use Rattle·calls·specs.specs.Answers.{Checks};
-ghost use Rattle·calls.proofs.Steps.{step};
+use Rattle.theory.specs.Weight.{weight as own_weight}
+use Rattle.theory.specs.Bisimulation as General
+use Rattle.trees.specs.declared.TreeRead.TheVariants as trees
+ghost use Rattle.calls.specs.Answers.{Checks};
+ghost use Rattle.calls.proofs.Steps.{step};
 ";
 
     fn specs(file: &str, name: &str) -> Option<Origin> {
@@ -119,6 +124,7 @@ ghost use Rattle·calls.proofs.Steps.{step};
             specs("calls/specs/Answers.antt", "Checks")
         );
         assert_eq!(uses.origin("leb"), Some(Origin::Kit));
+        assert_eq!(uses.origin("get_or"), Some(Origin::Kit));
         assert_eq!(uses.origin("Forest"), None);
     }
 
@@ -126,7 +132,7 @@ ghost use Rattle·calls.proofs.Steps.{step};
     fn a_name_may_have_another_name_here() {
         let uses = Uses::read(LINES);
         assert_eq!(
-            uses.origin("ownWeight"),
+            uses.origin("own_weight"),
             specs("theory/specs/Weight.antt", "weight")
         );
         assert_eq!(uses.origin("weight"), None);
@@ -140,7 +146,7 @@ ghost use Rattle·calls.proofs.Steps.{step};
     #[test]
     fn a_whole_path_is_a_name() {
         let uses = Uses::read("");
-        let path = "Rattle·calls·specs.specs.Picking.chosen";
+        let path = "Rattle.calls.specs.Picking.chosen";
         assert_eq!(
             uses.origin(path),
             specs("calls/specs/Picking.antt", "chosen")
@@ -149,7 +155,7 @@ ghost use Rattle·calls.proofs.Steps.{step};
 
     #[test]
     fn a_file_of_proofs_holds_no_definitions() {
-        let path = "Rattle·calls.proofs.Steps.step".to_string();
+        let path = "Rattle.calls.proofs.Steps.step".to_string();
         assert_eq!(Uses::read(LINES).origin("step"), Some(Origin::Other(path)));
     }
 }

@@ -47,7 +47,7 @@ those over the old ones were equal. So the passes end when one parts nothing, an
     source: include_str!("wrong/one_pass.rs"),
     shrinkers: &[(WRONG, &OnePass)],
     keeps_weights: None,
-    lemma: "blocks-one-pass",
+    lemma: "blocks_one_pass",
     table: "Table E of document 01 (P8), where 0 and 1 would merge",
     promise: "\
 The blocks must be the coarsest, `CoarsestBlocks` in `crates/theory/specs/Direction.antt`: two states share one exactly if some
@@ -66,10 +66,10 @@ each takes the place of the one before, and the last is kept; if a taken place i
         ("the one that keeps the first", &KeepsTheFirst),
     ],
     keeps_weights: None,
-    lemma: "collapse-keeps-one",
+    lemma: "collapse_keeps_one",
     table: "Table A of document 01 (P2), with 5 or 7 for 12",
     promise: "\
-Each code must be that of a sum, `blockWeight` in `crates/theory/specs/Collapse.antt`: backward over all children in the child
+Each code must be that of a sum, `block_weight` in `crates/theory/specs/Collapse.antt`: backward over all children in the child
 blocks, forward over all targets in the target's block.",
 };
 
@@ -82,10 +82,10 @@ transitions into the block have been added up, and to add the final weights too 
     source: include_str!("wrong/summed_finals.rs"),
     shrinkers: &[(WRONG, &SummedFinals)],
     keeps_weights: None,
-    lemma: "collapse-sums-finals",
+    lemma: "collapse_sums_finals",
     table: "Table D of document 01 (P7)",
     promise: "\
-A block's final weight must be `blockFinal` in `crates/theory/specs/Collapse.antt`: backward the sum over the members, forward the
+A block's final weight must be `block_final` in `crates/theory/specs/Collapse.antt`: backward the sum over the members, forward the
 weight of any one of them.",
 };
 
@@ -100,10 +100,10 @@ adds them up. Whoever begins in both directions alike merges too little.",
     keeps_weights: Some(
         "\
 Nor does a larger one, nor any tree in another table: the blocks are a backward bisimulation, only not the coarsest, and every
-bisimulation's collapse keeps all weights (`collapsed-value` in `crates/theory/specs/KeptWeight.antt`). The error is that the table stays
+bisimulation's collapse keeps all weights (`collapsed_value` in `crates/theory/specs/KeptWeight.antt`). The error is that the table stays
 larger than it need be, and no weighing finds it.",
     ),
-    lemma: "blocks-split-by-finals",
+    lemma: "blocks_split_by_finals",
     table: "Table G of `crates/collapse/specs/Shrinking.antt`",
     promise: "\
 The blocks must be the coarsest, `CoarsestBlocks` in `crates/theory/specs/Direction.antt`, and what makes two states agree backward,
@@ -123,10 +123,10 @@ No listed transition has weight zero, so it seems that no sum of them has. But m
 A transition of weight zero adds nothing to a tree's weight, but a table has no place for it: each table has exactly one written
 form, and that has no code 0 in a transition. The next program that reads these bytes refuses them.",
     ),
-    lemma: "collapse-writes-zero",
+    lemma: "collapse_writes_zero",
     table: "Table D of document 01 (P7)",
     promise: "\
-A collapse lists no code 0, `zeros-unlisted` in `crates/theory/specs/Collapse.antt`.",
+A collapse lists no code 0, `zeros_unlisted` in `crates/theory/specs/Collapse.antt`.",
 };
 
 const NOTHING_AS_ZERO: Error = Error {
@@ -139,9 +139,9 @@ a transition of weight 0 counts as not listed.",
     source: include_str!("wrong/nothing_as_zero.rs"),
     shrinkers: &[(WRONG, &NothingAsZero)],
     keeps_weights: None,
-    lemma: "collapse-nothing-as-zero",
+    lemma: "collapse_nothing_as_zero",
     table: "Table C of document 01 (P6)",
     promise: "\
 What a code means is `meaning` in `crates/theory/specs/Arithmetic.antt`, and there code 0 of arithmetic 1 means nothing. The sums are
-those of the semiring `maxPlus` in `crates/theory/specs/MaxPlus.antt`, whose zero is nothing.",
+those of the semiring `max_plus` in `crates/theory/specs/MaxPlus.antt`, whose zero is nothing.",
 };

@@ -57,11 +57,13 @@ impl Lemma {
     }
 }
 
-/// From the name to where the proof begins.
+/// From the name to the next line that is not indented, where the proof begins.
 fn statement(name: &str) -> Option<&'static str> {
     let start = LEMMAS.find(&format!("pub {name} :"))?;
-    let end = LEMMAS[start..].find(&format!("\n{name} "))?;
-    Some(&LEMMAS[start..start + end])
+    let text = &LEMMAS[start..];
+    let mut ends = text.match_indices('\n').map(|(end, _)| end);
+    let end = ends.find(|end| !text[end + 1..].starts_with(' '))?;
+    Some(&text[..end])
 }
 
 fn words(text: &str) -> Vec<&str> {
@@ -97,16 +99,16 @@ mod tests {
     #[test]
     fn the_lemmas_are_about_01s_tables() {
         let table = |name| Lemma::read(name).table;
-        assert_eq!(table("collapse-keeps-one"), examples::A);
-        assert_eq!(table("collapse-nothing-as-zero"), examples::C);
-        assert_eq!(table("collapse-sums-finals"), examples::d());
-        assert_eq!(table("collapse-writes-zero"), examples::d());
-        assert_eq!(table("blocks-one-pass"), examples::E);
+        assert_eq!(table("collapse_keeps_one"), examples::A);
+        assert_eq!(table("collapse_nothing_as_zero"), examples::C);
+        assert_eq!(table("collapse_sums_finals"), examples::d());
+        assert_eq!(table("collapse_writes_zero"), examples::d());
+        assert_eq!(table("blocks_one_pass"), examples::E);
     }
 
     #[test]
     fn a_lemma_is_read_whole() {
-        let lemma = Lemma::read("collapse-keeps-one");
+        let lemma = Lemma::read("collapse_keeps_one");
         assert_eq!(lemma.promise, "Collapses");
         assert_eq!(lemma.direction, Direction::Backward);
         let mut room: Vec<Option<u8>> = examples::A_BACKWARD.map(Some).to_vec();

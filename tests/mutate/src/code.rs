@@ -30,7 +30,7 @@ pub fn pieces(source: &str) -> Vec<Piece> {
     let mut i = 0;
     while i < reader.tokens.len() {
         let end = match reader.text(i) {
-            "requires" | "ensures" => reader.behind_group(i + 1),
+            "requires" | "ensures" => reader.behind_clause(i),
             "fn" => reader.function(i, &mut found),
             "const" => reader.constant(i, &mut found),
             _ => i + 1,
@@ -74,6 +74,15 @@ impl<'a> Reader<'a> {
         group_end(self.source, &self.tokens, i) + 1
     }
 
+    /// The place behind the clause that token i begins. It may have a name.
+    fn behind_clause(&self, i: usize) -> usize {
+        let mut at = i + 1;
+        while at < self.tokens.len() && self.text(at) != "{" {
+            at += 1;
+        }
+        self.behind_group(at)
+    }
+
     /// Takes the body of the function whose `fn` is token i; the place behind it. A declaration without a body has none.
     fn function(&self, i: usize, found: &mut Vec<Piece>) -> usize {
         let mut at = self.parameters(i);
@@ -84,7 +93,7 @@ impl<'a> Reader<'a> {
         }
         while at < self.tokens.len() {
             match self.text(at) {
-                "requires" | "ensures" => at = self.behind_group(at + 1),
+                "requires" | "ensures" => at = self.behind_clause(at),
                 "{" => {
                     let end = group_end(self.source, &self.tokens, at);
                     found.push(self.piece(i + 1, result, at + 1, end));
@@ -244,13 +253,14 @@ mod tests {
 
     const FILE: &str = "
 // a < b
-ghost use Prim.Native.Nat.{_<_};
+ghost use Rattle.std.specs.Prelude.{◌<◌};
 pub const MANY: [u8; 2] = [1, 2];
 pub struct Size { pub states: usize }
 impl Size {
     pub fn of<'a>(self, a: &'a [u8; 3], b: usize) -> usize
-        requires { ⌜ a < b × {A = ℕ} ⌝ }
-        ensures { λ r. ⌜ r < 2 ⌝ }
+        requires { a.now < b × {A = ℕ} }
+        ensures low { result < 2 }
+        ensures high { 0 < result }
     {
         let mut x: [u8; 4] = [0u8; 4];
         b

@@ -56,8 +56,11 @@ pub fn crate_names(repository: &Path) -> io::Result<Vec<String>> {
     let lines = text
         .lines()
         .map(|line| line.split('#').next().unwrap_or(""));
-    let names = lines.filter_map(|line| line.split_once(':'));
-    Ok(names.map(|(name, _)| name.trim().to_string()).collect())
+    // the name of a static library is followed by that word
+    let names = lines
+        .filter_map(|line| line.split_once(':'))
+        .filter_map(|(head, _)| head.split_whitespace().next());
+    Ok(names.map(str::to_string).collect())
 }
 
 /// What the functions of each crate take.

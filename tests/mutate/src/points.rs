@@ -86,7 +86,8 @@ const OPERATORS: &[(&str, &str)] = &[
 
 /// Words that no call and no value ends with.
 pub const KEYWORDS: &[&str] = &[
-    "as", "break", "continue", "else", "if", "in", "let", "loop", "match", "mut", "return", "while",
+    "as", "break", "continue", "else", "for", "if", "in", "let", "loop", "match", "mut", "return",
+    "while",
 ];
 
 /// The edits of one file.

@@ -54,7 +54,8 @@ impl Finder<'_> {
                 }
                 "{" => {
                     at = self.behind_group(at);
-                    let statement = matches!(self.text(begin), "if" | "match" | "while" | "loop");
+                    let statement =
+                        matches!(self.text(begin), "if" | "match" | "while" | "loop" | "for");
                     if statement && at < to && self.text(at) != "else" {
                         begin = at;
                     }
@@ -79,7 +80,7 @@ impl Finder<'_> {
                     self.values_of_arms(open + 1, end, values);
                 }
             }
-            "while" | "loop" | "return" => {}
+            "while" | "loop" | "for" | "return" => {}
             _ => values.push((from, to)),
         }
     }

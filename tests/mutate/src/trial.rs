@@ -1,4 +1,4 @@
-//! Trying an edit: in a copy of the repository with its `target/`, so that what a crate depends on counts as proved.
+//! Trying an edit: in a copy of the repository with each crate's `out/`, so that what a crate depends on counts as proved.
 
 use std::fs;
 use std::io;
@@ -23,8 +23,6 @@ pub struct Scratch {
 /// A copy of the repository in which one edit is tried after another.
 pub struct Copy {
     repository: PathBuf,
-    /// the copy that no edit is made in
-    clean: PathBuf,
 }
 
 impl Scratch {
@@ -37,27 +35,24 @@ impl Scratch {
     /// A clean copy in which the crates are proved. An edit tells nothing of a crate that is not proved without it.
     pub fn clean_copy(&self, repository: &Path, crates: &[String]) -> io::Result<()> {
         let clean = self.clean();
-        for part in ["crates", "crates.txt", "target/rlib", "target/stamp"] {
-            let from = repository.join(part);
-            if from.exists() {
-                copy(&from, &clean.join(part))?;
+        for part in ["crates", "crates.txt"] {
+            copy(&repository.join(part), &clean.join(part))?;
+        }
+        for krate in crates {
+            let status = rt_check(&clean, krate, None)?.0;
+            if !status.success() {
+                let said = format!("{krate} is not proved as it stands");
+                return Err(io::Error::other(said));
             }
         }
-        let status = rt_check(&clean, crates, None)?.0;
-        if status.success() {
-            return Ok(());
-        }
-        Err(io::Error::other("a crate is not proved as it stands"))
+        Ok(())
     }
 
     /// A further copy of the clean one.
     pub fn copy(&self, number: usize) -> io::Result<Copy> {
         let repository = self.root.join(format!("copy-{number}"));
         copy(&self.clean(), &repository)?;
-        Ok(Copy {
-            repository,
-            clean: self.clean(),
-        })
+        Ok(Copy { repository })
     }
 
     fn clean(&self) -> PathBuf {
@@ -73,7 +68,8 @@ impl Drop for Scratch {
 }
 
 impl Copy {
-    /// Makes the edit, asks for the verdict on its crate and takes the edit back.
+    /// Makes the edit, asks for the verdict on its crate and takes the edit back. What crates above use of the crate is built under
+    /// another name than what a check keeps, and by the sum of its text, so that it counts as proved again afterwards.
     pub fn attempt(&self, mutation: &Mutation, limit: Duration) -> io::Result<Outcome> {
         let file = self
             .repository
@@ -86,29 +82,14 @@ impl Copy {
         }
         fs::write(&file, mutation.applied())?;
         let began = Instant::now();
-        let (status, said) = rt_check(&self.repository, &[mutation.krate.clone()], Some(limit))?;
+        let (status, said) = rt_check(&self.repository, &mutation.krate, Some(limit))?;
         let time = began.elapsed();
         fs::write(&file, mutation.source.as_bytes())?;
-        self.restore(&mutation.krate)?;
         Ok(Outcome {
             verdict: verdict(status.code(), &said),
             time,
             said,
         })
-    }
-
-    /// The crate counts as proved again, for the edits of crates above it.
-    fn restore(&self, krate: &str) -> io::Result<()> {
-        for part in [
-            format!("target/rlib/{krate}.rlib"),
-            format!("target/stamp/{krate}"),
-        ] {
-            let from = self.clean.join(&part);
-            if from.exists() {
-                copy(&from, &self.repository.join(&part))?;
-            }
-        }
-        Ok(())
     }
 }
 
@@ -127,19 +108,17 @@ fn copy(from: &Path, to: &Path) -> io::Result<()> {
     Err(io::Error::other(format!("cp -r {} failed", from.display())))
 }
 
-/// Runs `rt check`. `timeout` ends the prover too when the time is up.
+/// Runs `rt check` in the crate's folder. `timeout` ends the prover too when the time is up.
 fn rt_check(
     repository: &Path,
-    crates: &[String],
+    krate: &str,
     limit: Option<Duration>,
 ) -> io::Result<(ExitStatus, String)> {
     let seconds = limit.map_or(0, |limit| limit.as_secs());
     let output = Command::new("timeout")
         .args(["--kill-after=5", &seconds.to_string(), "rt", "check"])
-        .args(crates)
-        .env("RT_JOBS", "1")
-        .env("RT_CUT", "0")
-        .current_dir(repository)
+        .args(["--jobs", "1"])
+        .current_dir(repository.join("crates").join(krate))
         .output()?;
     let mut said = String::from_utf8_lossy(&output.stdout).into_owned();
     said.push_str(&String::from_utf8_lossy(&output.stderr));

@@ -1,6 +1,5 @@
 -- `adding::add_finals` meets its contract: what is added so far, and the final weights that are left, make up the sum.
 -- Assumes nothing.
-use Prim.Native.Nat.{◌-◌}
 use mathlib.Core.Path.{◌∙◌}
 use Rattle.adding.proofs.Totals.{totalling_starts, totalling_goes_on, totalling_ends}
 use Rattle.adding.proofs.add_finals.Goals as goal

@@ -1,7 +1,6 @@
 -- `adding::gather` meets its contract: the entries so far, and those of the transitions that are left, make up the whole.
 -- Assumes nothing.
 use Prim.Native.Nat.{ℕ, ◌-◌}
-use mathlib.Core.Path.{sym}
 use Rattle.theory.specs.Blocks.{block_of}
 use Rattle.theory.specs.Direction.{direction as side_of}
 use Rattle.tables.specs.Record.{columns}

@@ -2,7 +2,6 @@
 -- Assumes nothing.
 use Prim.Native.Nat.{◌-◌}
 use Rattle.theory.specs.Blocks.{block_of}
-use Rattle.profiles.specs.Packing.{packed}
 use Rattle.adding.proofs.Children.{kids_of, Keying}
 use Rattle.adding.proofs.key_of.Given as goal
 

@@ -1,6 +1,6 @@
 -- `adding::name_members` meets its contract: of the states below q the greatest in each block is named.
 -- Assumes nothing.
-use Prim.Native.Nat.{ℕ, ◌+◌, ◌-◌, ◌<◌}
+use Prim.Native.Nat.{ℕ, ◌+◌, ◌<◌}
 use mathlib.Core.Path.{refl, sym, subst}
 use mathlib.Core.List.{List}
 use Rattle.theory.specs.Blocks.{block_of}

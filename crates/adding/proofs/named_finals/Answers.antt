@@ -1,6 +1,6 @@
 -- `adding::named_finals` meets its contract: the blocks so far have their named member's final code.
 -- Assumes nothing.
-use Prim.Native.Nat.{ℕ, ◌-◌}
+use Prim.Native.Nat.{ℕ}
 use mathlib.Core.Path.{ap, ◌∙◌}
 use lib.ListN.{get_or}
 use Rattle.partition.specs.Filling.{filling_starts, filling_goes_on, filling_ends}

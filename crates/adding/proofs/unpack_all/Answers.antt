@@ -1,6 +1,5 @@
 -- `adding::unpack_all` meets its contract: the entries before entry i are transitions.
 -- Assumes nothing.
-use Prim.Native.Nat.{◌-◌}
 use mathlib.Core.Path.{refl}
 use native.Mathlib.Omega.{arith}
 use Rattle.adding.proofs.Unpacking.{unpacking_starts, unpacking_goes_on, unpacking_ends}

@@ -3,7 +3,7 @@
 use Prim.Native.Nat.{◌+◌}
 use mathlib.Core.Path.{refl, sym, ap, ◌∙◌}
 use native.Mathlib.Omega.{arith}
-use Rattle.answers.specs.Numbers.{code_small}
+use Rattle.answers.proofs.Numbers.{code_small}
 use Rattle.calls.proofs.pick_answer.Goals as goal
 
 pub overflow_add-result : goal.overflow_add-result

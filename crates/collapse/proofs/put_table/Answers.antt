@@ -1,7 +1,6 @@
 -- `collapse::put_table` meets its contract: the form is put at the front of the room if it fits.
 -- Assumes nothing.
 use Prim.Native.Nat.{◌≤◌}
-use mathlib.Core.Logic.{⊎_elim}
 use mathlib.Core.Path.{refl, sym, ◌∙◌}
 use native.Mathlib.Omega.{arith}
 use lib.ListN.{length}

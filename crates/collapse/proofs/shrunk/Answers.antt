@@ -8,7 +8,7 @@ use Rattle.tables.specs.Record.{table_of}
 use Rattle.theory.specs.Blocks.{block_of}
 use Rattle.theory.specs.Direction.{Direction, direction as side_of, other_side}
 use Rattle.theory.specs.Collapse.{CollapsedByCoarsest}
-use Rattle.theory.specs.CollapseProper.{collapsed_few}
+use Rattle.theory.proofs.CollapseProper.{collapsed_few}
 use Rattle.theory.specs.Shrink.{Shrinks}
 use Rattle.collapse.proofs.Turns.{Turn, turn_starts, turn_goes_on, turn_ends}
 use borrow.Author.Rules.{rules}

@@ -1,6 +1,6 @@
 -- `collapse::shrunk` meets its contract. The loop's invariant: if the last collapse merged states, what the shrink from here gives, the shrink from the start gives; if not, it has
 -- given the present table. The measure is how many states there were before the last collapse. Assumes nothing.
-use Prim.Native.Nat.{◌-◌, ◌≤◌, ◌<◌}
+use Prim.Native.Nat.{◌≤◌, ◌<◌}
 use mathlib.Core.Path.{◌≡◌}
 use lib.ListN.{length}
 use Rattle.tables.specs.Record.{table_of}

@@ -1,7 +1,6 @@
 -- `dependents::mark_moved` meets its contract. The invariant: what depends on the first i members, where they are moved, is marked. Assumes nothing.
 use Prim.Native.Nat.{◌-◌, ◌≤◌}
 use mathlib.Core.Logic.{◌≢◌}
-use mathlib.Core.Path.{sym}
 use lib.ListN.{get_or}
 use Rattle.theory.specs.Direction.{direction as side_of}
 use Rattle.dependents.specs.Marks.{Marked, SomeIn, Depends}

@@ -5,7 +5,6 @@ use Prim.Native.Nat.{ℕ, ◌+◌, ◌*◌, ◌-◌, ◌^◌, ◌<◌}
 use mathlib.Core.Logic.{⊎_elim}
 use mathlib.Core.Path.{◌≡◌}
 use native.Mathlib.Omega.{arith}
-use borrow.Author.Tests.{leb-true, leb-false}
 use Rattle.numbers.proofs.Groups.{groups_start, groups_go_on, group_fits, unit_grows, table_ends, byte_padded, fifth_too_large, byte_last}
 use Rattle.numbers.proofs.long_number.Lts as lts
 use Rattle.numbers.proofs.long_number.Tie as tie

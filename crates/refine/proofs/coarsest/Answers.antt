@@ -6,8 +6,7 @@ use mathlib.Core.List.{List}
 use mathlib.Core.Path.{◌≡◌, refl}
 use native.Mathlib.Omega.{arith}
 use lib.ListN.{length, replicate, get_or-replicate}
-use Rattle.tables.specs.declared.TableRecord.{TableRecord}
-use Rattle.theory.specs.Direction.{Direction, direction as side_of, other}
+use Rattle.theory.specs.Direction.{direction as side_of, other}
 use Rattle.uses.specs.Lists.{Long}
 use Rattle.uses.specs.Steps.{blank}
 use Rattle.partition.specs.Members.{flag}

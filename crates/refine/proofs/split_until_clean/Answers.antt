@@ -1,6 +1,5 @@
 -- `refine::split_until_clean` meets its contract. The invariant is `Splits`: splits have come to the present blocks. The measure falls since
 -- each split makes more blocks or fewer dirty states. Assumes nothing.
-use mathlib.Core.Bool.{true, false}
 use mathlib.Core.Path.{refl}
 use native.Mathlib.Omega.{arith}
 use Rattle.refine.specs.Splits.{none, another}

@@ -3,7 +3,6 @@
 use Prim.Native.Nat.{ℕ, ◌<◌}
 use mathlib.Core.Bool.{true, false}
 use mathlib.Core.Path.{◌≡◌}
-use native.Mathlib.Omega.{arith}
 use lib.ListN.{length}
 use Rattle.theory.specs.Direction.{direction as side_of}
 use Rattle.partition.specs.Members.{flag}

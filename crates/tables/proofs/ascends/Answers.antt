@@ -4,7 +4,7 @@ use Prim.Native.Nat.{ℕ, ◌+◌, ◌*◌, ◌-◌, ◌≤◌, ◌<◌}
 use mathlib.Core.Path.{◌≡◌, sym, ap, ◌∙◌}
 use native.Mathlib.Omega.{arith}
 use lib.ListN.{get_or}
-use Rattle.tables.proofs.Order.{order_by_symbol, order_by_children, rests, rests_agree, rests_differ, rests_end}
+use Rattle.tables.proofs.Order.{order_by_symbol, order_by_children, rests_agree, rests_differ, rests_end}
 use Rattle.tables.proofs.ascends.Lts as lts
 use Rattle.tables.proofs.ascends.Tie as tie
 use Rattle.tables.proofs.ascends.Reads as reads

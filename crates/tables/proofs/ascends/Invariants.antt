@@ -1,7 +1,7 @@
 -- `tables::ascends` meets its contract. The invariant: the children passed are the same, so the rest of the two keys decides.
 -- Assumes nothing.
 use Prim.Native.Nat.{◌*◌, ◌-◌, ◌≤◌}
-use mathlib.Core.Path.{◌≡◌, sym}
+use mathlib.Core.Path.{◌≡◌}
 use lib.ListN.{get_or}
 use Rattle.model.specs.Table.{lower}
 use Rattle.tables.specs.Record.{key_at, key_before}

@@ -1,6 +1,6 @@
 -- `tables::read_children` meets its contract. The invariant is `Filling`: so many children are in the array.
 -- Assumes nothing.
-use Prim.Native.Nat.{◌+◌, ◌-◌}
+use Prim.Native.Nat.{◌+◌}
 use mathlib.Core.Path.{◌≡◌, refl, sym, ap, ◌∙◌}
 use native.Mathlib.Omega.{arith}
 use Rattle.format.specs.Read.{found, one_of}

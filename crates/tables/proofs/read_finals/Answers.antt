@@ -1,6 +1,5 @@
 -- `tables::read_finals` meets its contract. The invariant is `Filling`: so many final codes are in the array.
 -- Assumes nothing.
-use Prim.Native.Nat.{◌-◌}
 use mathlib.Core.Path.{◌≡◌, sym, ap, ◌∙◌}
 use native.Mathlib.Omega.{arith}
 use Rattle.format.specs.Read.{found, as_found, any}

@@ -1,6 +1,5 @@
 -- `tables::read_ranks` meets its contract. The invariant is `Filling`: so many ranks are in the array, all at most 4.
 -- Assumes nothing.
-use Prim.Native.Nat.{◌-◌}
 use mathlib.Core.Path.{◌≡◌, sym, ap, ◌∙◌}
 use native.Mathlib.Omega.{arith}
 use Rattle.format.specs.Read.{found, as_found, within}

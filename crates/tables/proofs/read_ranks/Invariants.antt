@@ -1,7 +1,6 @@
 -- `tables::read_ranks` meets its contract. The invariant is `Filling`: so many ranks are in the array, all at most 4.
 -- Assumes nothing.
 use Prim.Native.Nat.{◌-◌}
-use mathlib.Core.Path.{sym}
 use Rattle.format.specs.Read.{within}
 use Rattle.tables.proofs.Filling.{Filling}
 use Rattle.tables.specs.Steps.{Small}

@@ -1,7 +1,6 @@
 -- `tables::read_transitions` meets its contract. The invariant is `Rowing`: so many transitions are in the columns, each above the
 -- one before.
 -- Assumes nothing.
-use Prim.Native.Nat.{◌-◌}
 use native.Mathlib.Omega.{arith}
 use lib.ListN.{take}
 use Rattle.tables.specs.Record.{columns}

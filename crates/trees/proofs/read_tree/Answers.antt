@@ -1,9 +1,8 @@
 -- `trees::read_tree` meets its contract. The loop's invariant: what is found from `at` on, with `due` nodes due, is what is found of the whole
 -- tree; and each node passed made at most 255 more due, so that the sum fits. The measure is what is left of the tree. Assumes nothing.
-use Prim.Native.Nat.{◌-◌}
 use mathlib.Core.Path.{◌≡◌, sym, ◌∙◌}
 use native.Mathlib.Omega.{arith}
-use lib.ListN.{length, take, get_or}
+use lib.ListN.{take, get_or}
 use lib.Seq.{length-take-le, get_or-take}
 use Rattle.trees.specs.Steps.{finished_at_end, due_at_end, finished_inside, due_too_late, due_unknown, due_known}
 use borrow.Author.Rules.{rules}

@@ -1,7 +1,7 @@
 -- `trees::read_tree` meets its contract. The loop's invariant: what is found from `at` on, with `due` nodes due, is what is found of the whole
 -- tree; and each node passed made at most 255 more due, so that the sum fits. The measure is what is left of the tree. Assumes nothing.
 use Prim.Native.Nat.{◌+◌, ◌*◌, ◌-◌, ◌≤◌}
-use mathlib.Core.Path.{◌≡◌, sym}
+use mathlib.Core.Path.{◌≡◌}
 use lib.ListN.{length, take, drop}
 use Rattle.trees.specs.Read.{nodes_from, tree_read}
 use Rattle.trees.proofs.read_tree.Given as goal

@@ -1,6 +1,5 @@
 -- `writer::length_of_column` meets its contract. The invariant is `Counting`: so many numbers of the column are counted.
 -- Assumes nothing.
-use Prim.Native.Nat.{◌-◌}
 use native.Mathlib.Omega.{arith}
 use Rattle.writer.proofs.Counting.{counting_starts, counting_fits, counting_goes_on, counting_ends}
 use Rattle.writer.proofs.length_of_column.Goals as goal

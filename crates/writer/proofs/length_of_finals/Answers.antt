@@ -1,6 +1,6 @@
 -- `writer::length_of_finals` meets its contract. The invariant is `Counting`: so many numbers of the column are counted.
 -- Assumes nothing.
-use Prim.Native.Nat.{ℕ, ◌-◌}
+use Prim.Native.Nat.{ℕ}
 use mathlib.Core.Path.{sym, ap}
 use native.Mathlib.Omega.{arith}
 use native.Mathlib.Nat.{zero-add}

@@ -1,6 +1,5 @@
 -- `writer::put_column` meets its contract. The invariant is `Columned`: so many numbers of the column are put.
 -- Assumes nothing.
-use Prim.Native.Nat.{◌-◌}
 use native.Mathlib.Omega.{arith}
 use Rattle.writer.proofs.Columns.{columned_starts, columned_fits, columned_goes_on, columned_ends}
 use Rattle.writer.proofs.put_column.Goals as goal

@@ -1,6 +1,6 @@
 -- `writer::put_finals` meets its contract. The invariant is `Columned`: so many numbers of the column are put.
 -- Assumes nothing.
-use Prim.Native.Nat.{ℕ, ◌-◌}
+use Prim.Native.Nat.{ℕ}
 use mathlib.Core.Path.{sym, ap}
 use native.Mathlib.Omega.{arith}
 use native.Mathlib.Nat.{zero-add}

@@ -1,5 +1,4 @@
 -- `grouping::comparing::find_part` meets its contract. The invariant: no part below m has a leader with p's profile. Assumes nothing.
-use Prim.Native.Nat.{◌-◌}
 use native.Mathlib.Omega.{arith}
 use borrow.Author.Count.{below_more}
 use Rattle.theory.specs.Equality.{not_both}

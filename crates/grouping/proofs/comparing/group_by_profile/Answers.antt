@@ -1,9 +1,8 @@
 -- `grouping::comparing::group_by_profile` meets its contract. The invariant is `Grouping`: i of the members are in parts, each of which has a leader. Assumes nothing.
-use Prim.Native.Nat.{ℕ, ◌+◌, ◌-◌, ◌<◌}
-use mathlib.Core.Logic.{⊎_elim}
+use Prim.Native.Nat.{ℕ, ◌+◌, ◌<◌}
 use mathlib.Core.Path.{◌≡◌, refl, sym, ◌∙◌, subst}
 use native.Mathlib.Omega.{arith}
-use lib.ListN.{get_or, set, length, length-set}
+use lib.ListN.{get_or, set, length-set}
 use Rattle.grouping.specs.Groups.{entries_of, Ready}
 use Rattle.grouping.proofs.Grouping.{Grouping, grouping_starts, grouping_joins, grouping_leads, grouping_ends}
 use Rattle.grouping.proofs.comparing.group_by_profile.Lts as lts

@@ -1,5 +1,5 @@
 -- `grouping::keys::fill` meets its contract. The invariant is `Filling`: the entries from lo to i stand in their places. Assumes nothing.
-use Prim.Native.Nat.{ℕ, ◌-◌, ◌<◌}
+use Prim.Native.Nat.{ℕ, ◌<◌}
 use mathlib.Core.Path.{ap, ◌∙◌}
 use native.Mathlib.Omega.{arith}
 use lib.ListN.{get_or}

@@ -1,7 +1,6 @@
 -- `grouping::keys::key_at` meets its contract. The invariant: the other children packed so far, with the rest behind them, are all of them. Assumes nothing.
-use Prim.Native.Nat.{◌%◌, ℕ, ◌+◌, ◌-◌, ◌*◌, ◌/◌, ◌≤◌, ◌<◌}
+use Prim.Native.Nat.{◌%◌, ℕ, ◌+◌, ◌*◌, ◌/◌, ◌≤◌, ◌<◌}
 use mathlib.Core.List.{List}
-use mathlib.Core.Logic.{⊎_elim}
 use mathlib.Core.Path.{ap₂, ◌≡◌, sym, ap, ◌∙◌}
 use native.Mathlib.Omega.{arith}
 use lib.ListN.{get_or, take, drop}

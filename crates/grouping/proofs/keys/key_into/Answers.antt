@@ -1,5 +1,5 @@
 -- `grouping::keys::key_into` meets its contract. The invariant: the children packed so far, with the rest behind them, are all of them. Assumes nothing.
-use Prim.Native.Nat.{ℕ, ◌+◌, ◌-◌, ◌*◌, ◌≤◌, ◌<◌}
+use Prim.Native.Nat.{ℕ, ◌+◌, ◌*◌, ◌≤◌, ◌<◌}
 use mathlib.Core.List.{List, map}
 use mathlib.Core.Path.{ap₂, ◌≡◌, sym, ap, ◌∙◌}
 use native.Mathlib.Omega.{arith}

@@ -1,7 +1,7 @@
 -- `grouping::keys::key_into` meets its contract. The invariant: the children packed so far, with the rest behind them, are all of them. Assumes nothing.
 use Prim.Native.Nat.{◌-◌, ◌*◌, ◌≤◌, ◌<◌}
 use mathlib.Core.List.{map}
-use mathlib.Core.Path.{◌≡◌, ap}
+use mathlib.Core.Path.{◌≡◌}
 use lib.ListN.{take, drop}
 use Rattle.theory.specs.Blocks.{block_of}
 use Rattle.profiles.specs.Packing

@@ -1,5 +1,5 @@
 -- `grouping::keys::sum_up_members` meets its contract. The invariant is `Profiling`: the profiles of i states are there. Assumes nothing.
-use Prim.Native.Nat.{suc, ◌-◌, ◌<◌}
+use Prim.Native.Nat.{suc, ◌<◌}
 use mathlib.Core.Path.{◌≡◌}
 use native.Mathlib.Omega.{arith}
 use lib.ListN.{get_or}

@@ -1,6 +1,5 @@
 -- `grouping::keys::sum_up_members` meets its contract. The invariant is `Profiling`: the profiles of i states are there. Assumes nothing.
 use Prim.Native.Nat.{◌-◌, ◌≤◌}
-use native.Mathlib.Omega.{arith}
 use Rattle.theory.specs.Blocks.{block_of}
 use Rattle.theory.specs.Direction.{direction as side_of}
 use Rattle.grouping.specs.Keys.{entry_of}

@@ -5,9 +5,9 @@ use mathlib.Core.List.{List, [], ◌∷◌, ◌++◌, map, Memᴰ, nil≢cons, c
 use Rattle.std.proofs.Math.Facts.{and_yes, yes_and}
 use Rattle.std.proofs.Math.Seq.{append_snoc}
 use Rattle.model.specs.Table.{Table, Transition, Each, ProperTransition, Proper}
-use Rattle.model.specs.Each.{each_implies, each_append, each-get_or}
+use Rattle.model.proofs.Each.{each_implies, each_append, each-get_or}
 use Rattle.theory.specs.Equality.{numbers, lists, same_list, same_list_equal, equal_same}
-use Rattle.theory.specs.Semiring.{Semiring}
+use Rattle.theory.specs.Semiring.{Semiring, Laws}
 use Rattle.theory.specs.Sum.{only, sum, sum_same, sum-met, only_and, only_holds}
 use Rattle.theory.specs.Below.{below, each_below}
 use Rattle.theory.specs.Arithmetic.{arithmetic, meaning, InRange, in_range_zero, in_range_meaning, in_range_sum}
@@ -15,10 +15,14 @@ use Rattle.theory.specs.Weight.{final}
 use Rattle.theory.specs.Direction.{Direction, backward, forward, sum_from, sum_into, Bisimulation}
 use Rattle.theory.specs.Entry.{key_at, block_key}
 use Rattle.theory.specs.Collapse.{block_weight, block_final}
+use Rattle.theory.proofs.Laws.{laws}
 
 module _ (X : Table) (b : ℕ → ℕ) where
   abbrev S : Semiring
   S = arithmetic X.arithmetic
+
+  L : Laws S
+  L = laws X.arithmetic
 
   -- the transitions whose weights are summed for blocks
   abbrev pub counts : Direction → ℕ → List ℕ → ℕ → Transition → Bool
@@ -58,7 +62,7 @@ module _ (X : Table) (b : ℕ → ℕ) where
   -- the weight for blocks is zero unless a listed transition has those blocks
   pub block_weight-met : (d : Direction) (σ : ℕ) (qs : List ℕ) (q : ℕ) → block_weight X b d σ qs q ≢ S.zero
       → (t : Transition) × Memᴰ t X.transitions × (block_key b t ≡ key_at σ (map b qs) (b q))
-  block_weight-met d σ qs q n = elim (sum-met S X.transitions (counts d σ qs q) (λ t. meaning X.arithmetic t.code))
+  block_weight-met d σ qs q n = elim (sum-met S L X.transitions (counts d σ qs q) (λ t. meaning X.arithmetic t.code))
       [ inl r ↦ (r.0, r.1, counts_blocks d σ qs q r.0 (counts_sound d σ qs q r.0 r.2)) | inr e ↦ absurd (n (block_weight_counts d σ qs q ∙ e)) ]
 
   module _ (proper : Proper X) where

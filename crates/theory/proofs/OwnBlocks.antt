@@ -2,25 +2,32 @@
 use Rattle.std.specs.Prelude.{◌≡◌, refl, Bool, true, List, map, ℕ, ◌<◌, ◌^◌, eqb, get_or}
 use Rattle.std.proofs.Common.{sym, ap, ap₂, ◌∙◌, subst, map-id, arith}
 use Rattle.model.specs.Table.{Table, Transition, Each, key, ProperTransition, Proper}
-use Rattle.model.specs.Each.{each_implies, each-get_or, map_each}
+use Rattle.model.proofs.Each.{each_implies, each-get_or, map_each}
 use Rattle.theory.specs.Equality.{numbers, lists, same_list, equal_same, same_comm, true_of}
-use Rattle.theory.specs.Semiring.{Semiring}
+use Rattle.theory.specs.Semiring.{Semiring, Laws}
 use Rattle.theory.specs.Sum.{only, sum-each}
 use Rattle.theory.specs.Below.{below, each_below, below_once}
 use Rattle.theory.specs.Arithmetic.{arithmetic, meaning, code_of, code_of-meaning}
 use Rattle.theory.specs.Weight.{final}
-use Rattle.theory.specs.Blocks.{FirstUse, block_count_own, block_count_all}
+use Rattle.theory.specs.Blocks.{FirstUse, block_count_own}
+use Rattle.theory.proofs.Blocks.{block_count_all}
 use Rattle.theory.specs.Bisimulation as General
 use Rattle.theory.specs.Direction.{Direction, backward, forward, Agree}
-use Rattle.theory.specs.Uses.{agreement}
+use Rattle.theory.proofs.Uses.{agreement}
 use Rattle.theory.specs.Entry.{key_at, block_key}
-use Rattle.theory.specs.Collapse.{block_final, Collapsed, collapsed_unique}
-use Rattle.theory.specs.AddingUp.{named, AddedUp, added_collapsed}
+use Rattle.theory.specs.Collapse.{block_final, Collapsed}
+use Rattle.theory.proofs.Collapse.{collapsed_unique}
+use Rattle.theory.specs.AddingUp.{named, AddedUp}
+use Rattle.theory.proofs.AddingUp.{added_collapsed}
+use Rattle.theory.proofs.Laws.{laws}
 
 -- Each state of X is its own block.
 module _ (X : Table) (proper : Proper X) (b : ℕ → ℕ) (own : (q : ℕ) → q < X.states → b q ≡ q) where
   abbrev S : Semiring
   S = arithmetic X.arithmetic
+
+  L : Laws S
+  L = laws X.arithmetic
 
   -- these blocks are a bisimulation in either direction
   pub own_bisimulation : (a : ℕ) (d : Direction) → General.Bisimulation X.states (Agree a X d) b
@@ -29,7 +36,7 @@ module _ (X : Table) (proper : Proper X) (b : ℕ → ℕ) (own : (q : ℕ) → 
   own_final : (d : Direction) (q : ℕ) → q < X.states → block_final X b d q ≡ final X.arithmetic X q
   own_final backward q l = sum-each S (λ p. p < X.states) (below X.states) (each_below X.states) _ _
       (λ p m. ap (λ (c : Bool). only S c (final X.arithmetic X p)) (ap₂ eqb (own p m) (own q l) ∙ same_comm numbers p q))
-      ∙ below_once S X.states q l (final X.arithmetic X)
+      ∙ below_once S L X.states q l (final X.arithmetic X)
   own_final forward q l = refl
 
   own_word : (qs : List ℕ) → Each (λ q. q < X.states) qs → map b qs ≡ qs

@@ -5,16 +5,18 @@ use mathlib.Core.List.Memᴰ
 use mathlib.Core.List.{List, [], map, Memᴰ}
 use Rattle.std.proofs.lemmas.List.{length-map}
 use Rattle.model.specs.Table.{Table, Transition, Each, key, ProperTransition, Proper}
-use Rattle.model.specs.Each.{each_members, each_member, each_places}
+use Rattle.model.proofs.Each.{each_members, each_member, each_places}
 use Rattle.theory.specs.Equality.{lists}
 use Rattle.theory.specs.Arithmetic.{arithmetic, code_of, code_of_zero}
-use Rattle.theory.specs.Blocks.{block_of, FirstUse, block_count_few}
+use Rattle.theory.specs.Blocks.{block_of, FirstUse}
+use Rattle.theory.proofs.Blocks.{block_count_few}
 use Rattle.theory.specs.Direction.{Direction}
 use Rattle.theory.specs.Order.{list_order}
 use Rattle.theory.specs.Listing.{rising_few}
 use Rattle.theory.specs.Entry.{key_at, key_at_parts, block_key, code_at, Between, code_at_own, ascending_rising}
-use Rattle.theory.specs.Collapse.{block_weight, Collapsed, CollapsedByCoarsest, block_known, state_member, transition_members}
-use Rattle.theory.specs.BlockWeight.{block_weight-met, in_range_block_weight, in_range_block_final}
+use Rattle.theory.specs.Collapse.{block_weight, Collapsed, CollapsedByCoarsest}
+use Rattle.theory.proofs.Collapse.{block_known, state_member, transition_members}
+use Rattle.theory.proofs.BlockWeight.{block_weight-met, in_range_block_weight, in_range_block_final}
 
 module _ (d : Direction) (X : Table) (b : ℕ → ℕ) (numbered : FirstUse X.states b) (Y : Table) (C : Collapsed d X b Y) where
   -- no more states than before

@@ -4,9 +4,9 @@ use Rattle.std.proofs.Common.{sym, ap, ◌∙◌, subst}
 use Rattle.std.proofs.lemmas.Simd.{map-map}
 use Rattle.std.proofs.lemmas.List.{map-append}
 use Rattle.model.specs.Table.{Table, Each, Proper}
-use Rattle.model.specs.Each.{each_append}
+use Rattle.model.proofs.Each.{each_append}
 use Rattle.theory.specs.Equality.{numbers, lists, same_list}
-use Rattle.theory.specs.Semiring.{Semiring}
+use Rattle.theory.specs.Semiring.{Semiring, Laws}
 use Rattle.theory.specs.Sum.{only, sum_same}
 use Rattle.theory.specs.Grouping.{key_sums_through}
 use Rattle.theory.specs.Below.{below, get_or_below, length-up_from}
@@ -15,10 +15,12 @@ use Rattle.theory.specs.Weight.{entering, leaving}
 use Rattle.theory.specs.Blocks.{block_of, FirstUse, first_use_own}
 use Rattle.theory.specs.Bisimulation as General
 use Rattle.theory.specs.Direction.{Direction, backward, forward, sum_from, sum_into, Agree, CoarsestBlocks}
-use Rattle.theory.specs.Collapse.{Collapsed, CollapsedByCoarsest, collapsed_by_coarsest_unique, block_known, blocks_known, state_member}
-use Rattle.theory.specs.CollapseProper.{collapsed_by_coarsest_proper}
-use Rattle.theory.specs.CollapsedSums.{final_collapsed, sums_backward, sums_forward}
-use Rattle.theory.specs.OwnBlocks.{own_bisimulation, own_collapsed}
+use Rattle.theory.specs.Collapse.{Collapsed, CollapsedByCoarsest}
+use Rattle.theory.proofs.Collapse.{collapsed_by_coarsest_unique, block_known, blocks_known, state_member}
+use Rattle.theory.proofs.CollapseProper.{collapsed_by_coarsest_proper}
+use Rattle.theory.proofs.CollapsedSums.{final_collapsed, sums_backward, sums_forward}
+use Rattle.theory.proofs.OwnBlocks.{own_bisimulation, own_collapsed}
+use Rattle.theory.proofs.Laws.{laws}
 
 module _ (X : Table) (b : ℕ → ℕ) (Y : Table) (numbered : FirstUse X.states b) (proper : Proper X) where
   abbrev a : ℕ
@@ -27,14 +29,17 @@ module _ (X : Table) (b : ℕ → ℕ) (Y : Table) (numbered : FirstUse X.states
   abbrev S : Semiring
   S = arithmetic a
 
+  L : Laws S
+  L = laws a
+
   -- the sums of the collapse under the blocks c are those of the table under the blocks of its blocks
   sum_from_lift : Collapsed backward X b Y → (c : ℕ → ℕ) (p : ℕ) → p < X.states → (σ : ℕ) (Ds : List ℕ) → sum_from a X (λ q. c (b q)) σ Ds p ≡ sum_from a Y c σ Ds (b p)
   sum_from_lift C c p l σ Ds = sum_same S X.transitions _ _ (λ t. ap (λ (Es : List ℕ). only S (same_list Es Ds) (entering a σ p t)) (sym (map-map c b t.children)))
-      ∙ key_sums_through S lists lists (map c) X.transitions (λ t. map b t.children) (entering a σ p) Y.transitions (λ t. t.children) (entering a σ (b p))
+      ∙ key_sums_through S L lists lists (map c) X.transitions (λ t. map b t.children) (entering a σ p) Y.transitions (λ t. t.children) (entering a σ (b p))
       (sums_backward X b Y numbered proper.transitions_proper C σ p l) Ds
 
   sum_into_lift : Collapsed forward X b Y → (c : ℕ → ℕ) (σ : ℕ) (qs : List ℕ) → Each (λ r. r < X.states) qs → (D : ℕ) → sum_into a X (λ q. c (b q)) σ qs D ≡ sum_into a Y c σ (map b qs) D
-  sum_into_lift C c σ qs l = key_sums_through S numbers numbers c X.transitions (λ t. b t.target) (leaving a σ qs) Y.transitions (λ t. t.target) (leaving a σ (map b qs))
+  sum_into_lift C c σ qs l = key_sums_through S L numbers numbers c X.transitions (λ t. b t.target) (leaving a σ qs) Y.transitions (λ t. t.target) (leaving a σ (map b qs))
       (sums_forward X b Y numbered proper.transitions_proper C σ qs l)
 
   -- states whose blocks agree in the collapse agree in the table

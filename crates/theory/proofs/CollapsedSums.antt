@@ -2,16 +2,19 @@
 use Rattle.std.specs.Prelude.{◌≡◌, List, map, ℕ, ◌<◌}
 use Rattle.std.proofs.Common.{sym, ap, ◌∙◌, subst}
 use Rattle.model.specs.Table.{Table, Each, ProperTransition}
-use Rattle.model.specs.Each.{each_implies}
+use Rattle.model.proofs.Each.{each_implies}
 use Rattle.theory.specs.Equality.{numbers, lists}
-use Rattle.theory.specs.Semiring.{Semiring}
+use Rattle.theory.specs.Semiring.{Semiring, Laws}
 use Rattle.theory.specs.Grouping.{key_sum, key_sums_met}
 use Rattle.theory.specs.Arithmetic.{arithmetic, meaning, meaning-code_of}
 use Rattle.theory.specs.Weight.{entering, leaving, final}
 use Rattle.theory.specs.Blocks.{FirstUse}
 use Rattle.theory.specs.Direction.{Direction, backward, forward, sum_from, sum_into}
-use Rattle.theory.specs.Entry.{key_at, Between, weight_at_key, weight_at_key_listed, entering_key_sum, leaving_key_sum}
-use Rattle.theory.specs.Collapse.{block_weight, block_final, Collapsed, state_member, states_members}
+use Rattle.theory.specs.Entry.{key_at, Between, weight_at_key, entering_key_sum, leaving_key_sum}
+use Rattle.theory.proofs.Entry.{weight_at_key_listed}
+use Rattle.theory.specs.Collapse.{block_weight, block_final, Collapsed}
+use Rattle.theory.proofs.Collapse.{state_member, states_members}
+use Rattle.theory.proofs.Laws.{laws}
 
 module _ (X : Table) (b : ℕ → ℕ) (Y : Table) where
   abbrev a : ℕ
@@ -19,6 +22,9 @@ module _ (X : Table) (b : ℕ → ℕ) (Y : Table) where
 
   abbrev S : Semiring
   S = arithmetic a
+
+  L : Laws S
+  L = laws a
 
   -- the weight that Y lists for blocks
   pub weight_at_key_collapsed : (d : Direction) → Collapsed d X b Y → (σ : ℕ) (qs : List ℕ) (q : ℕ) → Each (λ r. r < X.states) qs → q < X.states
@@ -35,7 +41,7 @@ module _ (X : Table) (b : ℕ → ℕ) (Y : Table) where
     module _ (C : Collapsed backward X b Y) where
       -- the summed weights into q with children in blocks are those that Y lists into q's block
       pub sums_backward : (σ q : ℕ) → q < X.states → (Ds : List ℕ) → sum_from a X b σ Ds q ≡ key_sum S lists Y.transitions (λ t. t.children) (entering a σ (b q)) Ds
-      sums_backward σ q l = key_sums_met S lists X.transitions (λ t. map b t.children) (entering a σ q) Y.transitions (λ t. t.children) (entering a σ (b q))
+      sums_backward σ q l = key_sums_met S lists L X.transitions (λ t. map b t.children) (entering a σ q) Y.transitions (λ t. t.children) (entering a σ (b q))
           (each_implies (ProperTransition X.ranks X.states) (λ t. Level (map b t.children)) (λ t p. level t.children p.children_known) X.transitions known)
           (each_implies (Between Y.states) (λ t. Level t.children)
           (λ t k. let (qs, lqs, e) = states_members backward X b numbered Y C t.children k.0 in subst Level e (level qs lqs)) Y.transitions C.states_known)
@@ -49,7 +55,7 @@ module _ (X : Table) (b : ℕ → ℕ) (Y : Table) where
     module _ (C : Collapsed forward X b Y) where
       -- the summed weights into a block are those that Y lists into it, with any members for the children
       pub sums_forward : (σ : ℕ) (qs : List ℕ) → Each (λ r. r < X.states) qs → (D : ℕ) → sum_into a X b σ qs D ≡ key_sum S numbers Y.transitions (λ t. t.target) (leaving a σ (map b qs)) D
-      sums_forward σ qs l = key_sums_met S numbers X.transitions (λ t. b t.target) (leaving a σ qs) Y.transitions (λ t. t.target) (leaving a σ (map b qs))
+      sums_forward σ qs l = key_sums_met S numbers L X.transitions (λ t. b t.target) (leaving a σ qs) Y.transitions (λ t. t.target) (leaving a σ (map b qs))
           (each_implies (ProperTransition X.ranks X.states) (λ t. Level (b t.target)) (λ t p. level t.target p.target_known) X.transitions known)
           (each_implies (Between Y.states) (λ t. Level t.target)
           (λ t k. let (q, lq, e) = state_member forward X b numbered Y C t.target k.1 in subst Level e (level q lq)) Y.transitions C.states_known)
