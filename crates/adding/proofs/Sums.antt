@@ -9,7 +9,7 @@ use lib.Dec.{T, eqb, eqb→eq, ltb→lt}
 use Rattle.model.specs.Table.{Table, Transition, Each, key, lower, Ascending}
 use Rattle.model.proofs.Each.{each_members, each_member}
 use Rattle.theory.specs.Equality.{numbers, lists, same_list, equal_same, test_iff}
-use Rattle.theory.specs.Semiring.{Semiring, Laws}
+use Rattle.theory.specs.Semiring.{Operations, Laws}
 use Rattle.theory.specs.Sum.{only, sum_same, sum-each, sum-map, sum-met, only_zero, zero_plus}
 use Rattle.theory.specs.Grouping.{key_sum, key_sums_through}
 use Rattle.theory.specs.Arithmetic.{arithmetic, Weight, meaning, meaning_zero, meaning_nonzero}
@@ -76,7 +76,7 @@ module _ (X : Table) (b r : ℕ → ℕ) (d : Direction) where
   abbrev a : ℕ
   a = X.arithmetic
 
-  abbrev S : Semiring
+  abbrev S : Operations
   S = arithmetic a
 
   L : Laws S

@@ -13,13 +13,13 @@ use lib.ListN.{length, get_or, set, replicate, length-set, length-replicate, get
 use lib.Seq.{get_or-set_same, get_or-set_other}
 use Rattle.theory.specs.Arithmetic.{arithmetic, Weight, meaning, code_of, meaning_zero, meaning-code_of, code_of_zero}
 use Rattle.theory.specs.Below.{up_from}
-use Rattle.theory.specs.Semiring.{Semiring, Laws}
+use Rattle.theory.specs.Semiring.{Operations, Laws}
 use Rattle.theory.specs.Sum.{only, sum, zero_plus}
 use Rattle.adding.specs.Finals.{finals_added}
 use Rattle.theory.proofs.Laws.{laws}
 
 module _ (a n : ℕ) (finals : List ℕ) (b : ℕ → ℕ) where
-  abbrev S : Semiring
+  abbrev S : Operations
   S = arithmetic a
 
   L : Laws S

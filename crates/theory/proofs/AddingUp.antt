@@ -6,7 +6,7 @@ use Rattle.std.proofs.Math.Facts.{and_yes, yes_and}
 use Rattle.model.specs.Table.{Table, Transition, Each, key, Ascending, ProperTransition, Proper}
 use Rattle.model.proofs.Each.{each_implies, each_map, each_members, each_member, map_each}
 use Rattle.theory.specs.Equality.{numbers, lists, same_list, same_list_equal, equal_same, test_iff}
-use Rattle.theory.specs.Semiring.{Semiring, Laws}
+use Rattle.theory.specs.Semiring.{Operations, Laws}
 use Rattle.theory.specs.Sum.{only, sum_same, sum-met, only_and}
 use Rattle.theory.specs.Grouping.{key_sums_met}
 use Rattle.theory.specs.Arithmetic.{arithmetic, meaning, code_of, code_of-meaning, code_of_zero, meaning-code_of}
@@ -32,7 +32,7 @@ module _ (d : Direction) (X : Table) (b r : ℕ → ℕ) (proper : Proper X) (bi
   abbrev a : ℕ
   a = X.arithmetic
 
-  abbrev S : Semiring
+  abbrev S : Operations
   S = arithmetic a
 
   L : Laws S

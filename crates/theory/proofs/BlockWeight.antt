@@ -7,7 +7,7 @@ use Rattle.std.proofs.Math.Seq.{append_snoc}
 use Rattle.model.specs.Table.{Table, Transition, Each, ProperTransition, Proper}
 use Rattle.model.proofs.Each.{each_implies, each_append, each-get_or}
 use Rattle.theory.specs.Equality.{numbers, lists, same_list, same_list_equal, equal_same}
-use Rattle.theory.specs.Semiring.{Semiring, Laws}
+use Rattle.theory.specs.Semiring.{Operations, Laws}
 use Rattle.theory.specs.Sum.{only, sum, sum_same, sum-met, only_and, only_holds}
 use Rattle.theory.specs.Below.{below, each_below}
 use Rattle.theory.specs.Arithmetic.{arithmetic, meaning, InRange, in_range_zero, in_range_meaning, in_range_sum}
@@ -18,7 +18,7 @@ use Rattle.theory.specs.Collapse.{block_weight, block_final}
 use Rattle.theory.proofs.Laws.{laws}
 
 module _ (X : Table) (b : ℕ → ℕ) where
-  abbrev S : Semiring
+  abbrev S : Operations
   S = arithmetic X.arithmetic
 
   L : Laws S

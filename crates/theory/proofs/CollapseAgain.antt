@@ -6,7 +6,7 @@ use Rattle.std.proofs.lemmas.List.{map-append}
 use Rattle.model.specs.Table.{Table, Each, Proper}
 use Rattle.model.proofs.Each.{each_append}
 use Rattle.theory.specs.Equality.{numbers, lists, same_list}
-use Rattle.theory.specs.Semiring.{Semiring, Laws}
+use Rattle.theory.specs.Semiring.{Operations, Laws}
 use Rattle.theory.specs.Sum.{only, sum_same}
 use Rattle.theory.specs.Grouping.{key_sums_through}
 use Rattle.theory.specs.Below.{below, get_or_below, length-up_from}
@@ -26,7 +26,7 @@ module _ (X : Table) (b : ℕ → ℕ) (Y : Table) (numbered : FirstUse X.states
   abbrev a : ℕ
   a = X.arithmetic
 
-  abbrev S : Semiring
+  abbrev S : Operations
   S = arithmetic a
 
   L : Laws S

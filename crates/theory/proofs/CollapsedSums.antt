@@ -4,7 +4,7 @@ use Rattle.std.proofs.Common.{sym, ap, ◌∙◌, subst}
 use Rattle.model.specs.Table.{Table, Each, ProperTransition}
 use Rattle.model.proofs.Each.{each_implies}
 use Rattle.theory.specs.Equality.{numbers, lists}
-use Rattle.theory.specs.Semiring.{Semiring, Laws}
+use Rattle.theory.specs.Semiring.{Operations, Laws}
 use Rattle.theory.specs.Grouping.{key_sum, key_sums_met}
 use Rattle.theory.specs.Arithmetic.{arithmetic, meaning, meaning-code_of}
 use Rattle.theory.specs.Weight.{entering, leaving, final}
@@ -20,7 +20,7 @@ module _ (X : Table) (b : ℕ → ℕ) (Y : Table) where
   abbrev a : ℕ
   a = X.arithmetic
 
-  abbrev S : Semiring
+  abbrev S : Operations
   S = arithmetic a
 
   L : Laws S

@@ -7,7 +7,7 @@ use Rattle.model.specs.Table.{Table, Transition, Each, ProperTransition, Proper}
 use Rattle.model.specs.Tree.{Tree, Forest, node, none, ◌then◌, count}
 use Rattle.model.proofs.Each.{each_implies}
 use Rattle.theory.specs.Equality.{numbers, lists, same_list, same_comm}
-use Rattle.theory.specs.Semiring.{Semiring, Laws}
+use Rattle.theory.specs.Semiring.{Operations, Laws}
 use Rattle.theory.specs.Sum.{only, sum, sum_same, sum-each, sum-zero, sum-exchange, sum-exchange-only, sum-times, sum-times-sum, only_and, only_comm, only_sum, only_times, only_times_only}
 use Rattle.theory.specs.Grouping.{key_sum, sums_by_key, sum_regroup, Once}
 use Rattle.theory.specs.Below.{below, each_below, below_once}
@@ -26,7 +26,7 @@ module _ (X : Table) (b : ℕ → ℕ) (Y : Table) (numbered : FirstUse X.states
   abbrev a : ℕ
   a = X.arithmetic
 
-  abbrev S : Semiring
+  abbrev S : Operations
   S = arithmetic a
 
   L : Laws S

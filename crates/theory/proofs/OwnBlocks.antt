@@ -4,7 +4,7 @@ use Rattle.std.proofs.Common.{sym, ap, ap₂, ◌∙◌, subst, map-id, arith}
 use Rattle.model.specs.Table.{Table, Transition, Each, key, ProperTransition, Proper}
 use Rattle.model.proofs.Each.{each_implies, each-get_or, map_each}
 use Rattle.theory.specs.Equality.{numbers, lists, same_list, equal_same, same_comm, true_of}
-use Rattle.theory.specs.Semiring.{Semiring, Laws}
+use Rattle.theory.specs.Semiring.{Operations, Laws}
 use Rattle.theory.specs.Sum.{only, sum-each}
 use Rattle.theory.specs.Below.{below, each_below, below_once}
 use Rattle.theory.specs.Arithmetic.{arithmetic, meaning, code_of, code_of-meaning}
@@ -23,7 +23,7 @@ use Rattle.theory.proofs.Laws.{laws}
 
 -- Each state of X is its own block.
 module _ (X : Table) (proper : Proper X) (b : ℕ → ℕ) (own : (q : ℕ) → q < X.states → b q ≡ q) where
-  abbrev S : Semiring
+  abbrev S : Operations
   S = arithmetic X.arithmetic
 
   L : Laws S

@@ -3,14 +3,14 @@ use Rattle.std.specs.Prelude.{◌≡◌, refl, ◌≢◌, ◌↔◌, Bool, true,
 use Rattle.std.proofs.Common.{sym, ap, ◌∙◌, arith, mod-eq_of_lt, eqb→eq}
 use Rattle.model.specs.Table.{Each}
 use Rattle.theory.specs.Equality.{numbers, false_differ, of_true}
-use Rattle.theory.specs.Semiring.{Semiring}
+use Rattle.theory.specs.Semiring.{Operations}
 use Rattle.theory.specs.Sum.{sum, sum_holds}
 use Rattle.theory.specs.Modular.{modular, residue, residue_same, residue_number}
 use Rattle.theory.specs.Maximum.{max_z_both}
 use Rattle.theory.specs.MaxPlus.{max_plus, Value, nothing, number}
 
 -- arithmetic 0 is modular; a table's other arithmetic, 1, is max and plus
-abbrev pub arithmetic : ℕ → Semiring
+abbrev pub arithmetic : ℕ → Operations
 arithmetic zero = modular
 arithmetic (suc a) = max_plus
 

@@ -4,7 +4,7 @@ use Rattle.std.proofs.Common.{ap, ap₂, ◌∙◌, subst, inl, inr, arith}
 use Rattle.model.specs.Table.{Each}
 use Rattle.model.proofs.Each.{each_at}
 use Rattle.theory.specs.Equality.{numbers, equal_or_not, same_true, same_false, false_differ}
-use Rattle.theory.specs.Semiring.{Semiring, Laws}
+use Rattle.theory.specs.Semiring.{Operations, Laws}
 use Rattle.theory.specs.Sum.{only, sum, zero_plus}
 use Rattle.theory.specs.Grouping.{Once}
 
@@ -41,7 +41,7 @@ get_or_below n q l = omega (arith, get_or-up_from 0 n q l)
 pub below_each : (P : ℕ → Type 0) (n : ℕ) → Each P (below n) → (q : ℕ) → q < n → P q
 below_each P n m q l = subst P (get_or_below n q l) (each_at P (below n) q 0 m (omega (arith, length-up_from 0 n)))
 
-module _ (S : Semiring) (L : Laws S) where
+module _ (S : Operations) (L : Laws S) where
   open S use {Carrier, zero as 𝟘, plus as ◌⊕◌}
   open L use {plus_zero}
 

@@ -8,7 +8,7 @@ use Rattle.model.specs.Table.{Table, Each}
 use Rattle.model.proofs.Each.{each_implies}
 use Rattle.theory.specs.Equality.{numbers, equal_same}
 use Rattle.theory.specs.Below.{below, up_from}
-use Rattle.theory.specs.Semiring.{Semiring, Laws}
+use Rattle.theory.specs.Semiring.{Operations, Laws}
 use Rattle.theory.specs.Arithmetic.{arithmetic}
 use Rattle.theory.specs.Blocks.{block_of, block_count}
 use Rattle.theory.specs.Bisimulation as General
@@ -54,7 +54,7 @@ all_pairs n f = all (below n) (λ p. all (below n) (f p))
 pub all_pairs_at : (n : ℕ) (f : ℕ → ℕ → Bool) → T (all_pairs n f) → (p q : ℕ) → p < n → q < n → T (f p q)
 all_pairs_at n f t p q lp lq = all_below n (f p) (all_below n (λ p. all (below n) (f p)) t p lp) q lq
 
-module _ (S : Semiring) (n : ℕ) (grade : ℕ → S.Carrier) (uses : List (Use S.Carrier)) where
+module _ (S : Operations) (n : ℕ) (grade : ℕ → S.Carrier) (uses : List (Use S.Carrier)) where
   -- the sums of p and q are equal at the key of a use
   abbrev pub level_test : (ℕ → ℕ) → ℕ → ℕ → Use S.Carrier → Bool
   level_test b p q u = S.equality.same (profile S uses b (key_of b u) p) (profile S uses b (key_of b u) q)

@@ -6,7 +6,7 @@ use mathlib.Core.List.{List, [], ◌∷◌, ◌++◌, map, Memᴰ}
 use Rattle.model.specs.Table.{Each}
 use Rattle.model.proofs.Each.{each_members, each_member}
 use Rattle.theory.specs.Equality.{Equality, equal_or_not, equal_same, same_true, false_differ, true_of, test_iff}
-use Rattle.theory.specs.Semiring.{Semiring, Laws}
+use Rattle.theory.specs.Semiring.{Operations, Laws}
 use Rattle.theory.specs.Sum.{only, sum, sum_same, sum-each, sum-zero, sum-exchange, sum-times, only_times, only_zero, only_not, times_only_one, zero_plus, sum-met}
 
 -- a list without one key
@@ -45,7 +45,7 @@ abbrev pub distinct : {K : Type 0} → Equality K → List K → List K
 distinct E [] = []
 distinct E (k ∷ ks) = k ∷ without E k (distinct E ks)
 
-module _ (S : Semiring) {K : Type 0} (E : Equality K) where
+module _ (S : Operations) {K : Type 0} (E : Equality K) where
   open S use {Carrier, zero as 𝟘, plus as ◌⊕◌, times as ◌⊗◌}
 
   infixl 6 ◌⊕◌
@@ -132,7 +132,7 @@ module _ (S : Semiring) {K : Type 0} (E : Equality K) where
         ∙ sym (sum_regroup ys κ' w' g U (each_members _ ys (λ y m. distinct_once _ _ (Memᴰ.append_right (map κ xs) (Memᴰ.map κ' m)))))
 
 -- equal sums for each key give equal sums for each key that is a function of theirs
-pub key_sums_through : (S : Semiring) (L : Laws S) {J K : Type 0} (F : Equality J) (E : Equality K) (f : J → K) {A B : Type 0} (xs : List A) (κ : A → J) (w : A → S.Carrier) (ys : List B) (κ' : B → J) (w' : B → S.Carrier)
+pub key_sums_through : (S : Operations) (L : Laws S) {J K : Type 0} (F : Equality J) (E : Equality K) (f : J → K) {A B : Type 0} (xs : List A) (κ : A → J) (w : A → S.Carrier) (ys : List B) (κ' : B → J) (w' : B → S.Carrier)
     → ((j : J) → key_sum S F xs κ w j ≡ key_sum S F ys κ' w' j) → (k : K) → key_sum S E xs (λ x. f (κ x)) w k ≡ key_sum S E ys (λ y. f (κ' y)) w' k
 key_sums_through S L F E f xs κ w ys κ' w' h k =
     sum_same S xs _ _ (λ x. sym (times_only_one S L (E.same (f (κ x)) k) (w x)))
@@ -140,7 +140,7 @@ key_sums_through S L F E f xs κ w ys κ' w' h k =
     ∙ sum_same S ys _ _ (λ y. times_only_one S L (E.same (f (κ' y)) k) (w' y))
 
 -- packed keys: where packing tells the members' keys from j, the sum for j packed is the sum for j
-pub key_sum_packed : (S : Semiring) {J K : Type 0} (F : Equality J) (E : Equality K) (pack : J → K) {A : Type 0} (xs : List A) (κ : A → J) (w : A → S.Carrier) (j : J)
+pub key_sum_packed : (S : Operations) {J K : Type 0} (F : Equality J) (E : Equality K) (pack : J → K) {A : Type 0} (xs : List A) (κ : A → J) (w : A → S.Carrier) (j : J)
     → Each (λ x. pack (κ x) ≡ pack j → κ x ≡ j) xs → key_sum S E xs (λ x. pack (κ x)) w (pack j) ≡ key_sum S F xs κ w j
 key_sum_packed S F E pack xs κ w j tells = sum-each S (λ x. pack (κ x) ≡ pack j → κ x ≡ j) xs tells _ _ (λ x f. ap (λ (c : Bool). only S c (w x))
     (test_iff (E.same (pack (κ x)) (pack j)) (F.same (κ x) j) (λ t. equal_same F (κ x) j (f (E.same_equal (pack (κ x)) (pack j) t))) (λ t. equal_same E (pack (κ x)) (pack j) (ap pack (F.same_equal (κ x) j t)))))

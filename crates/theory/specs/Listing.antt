@@ -4,7 +4,7 @@ use Rattle.std.proofs.Common.{sym, ap, ap₂, ◌∙◌, subst, inl, inr, arith}
 use mathlib.Core.List.{List, [], ◌∷◌, Memᴰ}
 use Rattle.model.specs.Table.{Each}
 use Rattle.theory.specs.Equality.{Equality, equal_or_not, same_true, same_false, same_comm}
-use Rattle.theory.specs.Semiring.{Semiring, Laws}
+use Rattle.theory.specs.Semiring.{Operations, Laws}
 use Rattle.theory.specs.Sum.{only, sum, zero_plus}
 use Rattle.theory.specs.Grouping.{without, without_fewer, without_member, key_sum}
 use Rattle.theory.specs.Order.{Order}
@@ -85,7 +85,7 @@ module _ {X K W : Type 0} (E : Equality K) (O : Order K) (key : X → K) (value 
       go false h = h
 
   -- the sum for a key is what is listed for it
-  pub sum_listed : (S : Semiring) (L : Laws S) (m : W → S.Carrier) → m none ≡ S.zero → (i k : K) (xs : List X) → Rising i xs
+  pub sum_listed : (S : Operations) (L : Laws S) (m : W → S.Carrier) → m none ≡ S.zero → (i k : K) (xs : List X) → Rising i xs
       → key_sum S E xs key (λ x. m (value x)) k ≡ m (listed xs k)
   sum_listed S L m z i k [] r = sym z
   sum_listed S L m z i k (x ∷ xs) r = go (equal_or_not E (key x) k) (λ j. sum_listed S L m z (key x) j xs r.1)

@@ -3,7 +3,7 @@ use Rattle.std.specs.Prelude.{◌≡◌, refl, Bool, true, false, ℕ, T, eqb, �
 use Rattle.std.proofs.Common.{ap, eqb→eq}
 use Rattle.std.proofs.Math.Dec.{eqb_refl}
 use Rattle.theory.specs.Equality.{Equality}
-use Rattle.theory.specs.Semiring.{Semiring}
+use Rattle.theory.specs.Semiring.{Operations}
 use Rattle.theory.specs.Maximum.{max_z}
 
 -- nothing, or a whole number
@@ -49,7 +49,7 @@ same_value_self (number (negsuc a)) = eqb_refl a
 abbrev pub values : Equality Value
 values = record { same = same_value; same_equal = same_value_equal; same_self = same_value_self }
 
-abbrev pub max_plus : Semiring
+abbrev pub max_plus : Operations
 max_plus = record {
   Carrier = Value;
   zero = nothing;

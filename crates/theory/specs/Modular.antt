@@ -5,7 +5,7 @@ use mathlib.Core.HLevel.{Σ_prop_path}
 use Rattle.std.proofs.Math.Bridge.{le_prop}
 use Rattle.std.proofs.Math.Nat.{mod-add-div, add-mul-mod_self_left}
 use Rattle.std.proofs.Math.Dec.{eqb_refl}
-use Rattle.theory.specs.Semiring.{Semiring}
+use Rattle.theory.specs.Semiring.{Operations}
 
 -- a number below 2^32
 abbrev pub Residue : Type 0
@@ -33,7 +33,7 @@ remainder_times m a b = sym (add-mul-mod_self_left (a % m * b) m (a / m * b))
 pub times_remainder : (m a b : ℕ) → (a * (b % m)) % m ≡ (a * b) % m
 times_remainder m a b = ap (λ (x : ℕ). x % m) (mul_comm a (b % m)) ∙ remainder_times m b a ∙ ap (λ (x : ℕ). x % m) (mul_comm b a)
 
-abbrev pub modular : Semiring
+abbrev pub modular : Operations
 modular = record {
   Carrier = Residue;
   zero = residue 0;

@@ -6,7 +6,7 @@ use mathlib.Core.List.{List, [], ◌∷◌, map, map-map}
 use Rattle.model.specs.Table.{Each}
 use Rattle.model.proofs.Each.{each_implies, map_each}
 use Rattle.theory.specs.Equality.{Equality, numbers, lists, pairs, equal_or_not, false_differ}
-use Rattle.theory.specs.Semiring.{Semiring, Laws}
+use Rattle.theory.specs.Semiring.{Operations, Laws}
 use Rattle.theory.specs.Sum.{only, sum, sum-each, sum-zero, only_zero}
 use Rattle.theory.specs.Grouping.{key_sum, key_sums_through, key_sum_packed}
 use Rattle.theory.specs.Blocks.{Refines, member, member_shares}
@@ -29,7 +29,7 @@ keys = pairs lists lists
 abbrev pub key_of : {W : Type 0} → (ℕ → ℕ) → Use W → Key
 key_of b u = (u.fixed, map b u.through)
 
-module _ (S : Semiring) where
+module _ (S : Operations) where
   open S use {Carrier, zero as 𝟘}
 
   -- the weight of a use of p; zero for a use of any other state

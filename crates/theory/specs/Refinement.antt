@@ -3,11 +3,11 @@ use Rattle.std.specs.Prelude.{◌≡◌, ◌⊎◌, ◌≢◌, ◌↔◌, false,
 use Rattle.std.proofs.Common.{sym, ◌∙◌, inl, inr}
 use Rattle.model.specs.Table.{Each}
 use Rattle.theory.specs.Equality.{numbers, equal_or_not, false_differ}
-use Rattle.theory.specs.Semiring.{Semiring, Laws}
+use Rattle.theory.specs.Semiring.{Operations, Laws}
 use Rattle.theory.specs.Bisimulation as General
 use Rattle.theory.specs.Profile.{Use, SameProfile, Independent, profile_kept, Alike, alike_agreement}
 
-module _ (S : Semiring) (n : ℕ) (grade : ℕ → S.Carrier) (uses : List (Use S.Carrier)) (known : Each (λ u. Each (λ r. r < n) u.through) uses) where
+module _ (S : Operations) (n : ℕ) (grade : ℕ → S.Carrier) (uses : List (Use S.Carrier)) (known : Each (λ u. Each (λ r. r < n) u.through) uses) where
   -- b are the present blocks; a state that is not clean has to be looked at again
   pub record Refining (b : ℕ → ℕ) (Clean : ℕ → Type 0) : Type 0 where
     pub covers : General.Covers n (Alike S n grade uses) b

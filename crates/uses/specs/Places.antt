@@ -8,7 +8,7 @@ use Rattle.model.specs.Table.{Each}
 use Rattle.theory.specs.Below.{up_from, below, each_below}
 use Rattle.theory.specs.Direction.{Direction, backward, forward}
 use Rattle.model.proofs.Each.{each_implies, each_map, each-flat_map}
-use Rattle.theory.specs.Semiring.{Semiring, Laws}
+use Rattle.theory.specs.Semiring.{Operations, Laws}
 use Rattle.theory.specs.Sum.{only, sum, sum_same, sum-map, sum-flat_map, sum-exchange, zero_plus}
 use Rattle.uses.specs.Numbers.{places, number_at, limit, at_place, numbers_of, chosen}
 
@@ -47,7 +47,7 @@ number_met backward count u l = met-flat_map (at_place backward count) (below 1)
 number_met forward count u l = met-flat_map (at_place forward count) (below 4) (met-up_from 0 4 (u % 4) (omega arith) (omega arith)) (Memᴰ.cast (omega arith) (met-map (number_at forward (u % 4)) (met-up_from 0 count (u / 4) (omega arith) (omega arith))))
 
 -- a sum over the numbers, by transitions and their places
-pub sum_numbers : (S : Semiring) (L : Laws S) (d : Direction) (count : ℕ) (f : ℕ → S.Carrier)
+pub sum_numbers : (S : Operations) (L : Laws S) (d : Direction) (count : ℕ) (f : ℕ → S.Carrier)
     → sum S (numbers_of d count) f ≡ sum S (below count) (λ j. sum S (below (places d)) (λ k. f (number_at d k j)))
 unfolding numbers_of
 sum_numbers S L d count f = sum-flat_map S L (at_place d count) (below (places d)) f ∙ sum_same S (below (places d)) _ _ (λ k. sum-map S (number_at d k) (below count) f)
@@ -73,7 +73,7 @@ met_chosen test {u} (v ∷ us) (Memᴰ.tail m) t = go (test v) (met_chosen test 
     go false m = m
 
 -- a sum over those that are chosen
-pub sum_chosen : (S : Semiring) (L : Laws S) (test : ℕ → Bool) (us : List ℕ) (f : ℕ → S.Carrier) → sum S (chosen test us) f ≡ sum S us (λ u. only S (test u) (f u))
+pub sum_chosen : (S : Operations) (L : Laws S) (test : ℕ → Bool) (us : List ℕ) (f : ℕ → S.Carrier) → sum S (chosen test us) f ≡ sum S us (λ u. only S (test u) (f u))
 sum_chosen S L test [] f = refl
 sum_chosen S L test (u ∷ us) f = go (test u) (sum_chosen S L test us f)
   where

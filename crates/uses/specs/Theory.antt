@@ -11,7 +11,7 @@ use Rattle.theory.specs.Below.{up_from, below, each_below}
 use Rattle.theory.specs.Direction.{Direction, backward, forward}
 use Rattle.model.proofs.Each.{each_implies, each_map, each-flat_map}
 use Rattle.theory.specs.Profile.{Use, counted}
-use Rattle.theory.specs.Semiring.{Semiring, Laws}
+use Rattle.theory.specs.Semiring.{Operations, Laws}
 use Rattle.theory.specs.Sum.{only, sum, sum_same, sum-each, sum-map, sum-flat_map, only_comm, zero_plus}
 use Rattle.theory.specs.Uses.{uses, use_into, use_at}
 use Rattle.uses.specs.Numbers.{places, number_at, limit, use_test, state_of, numbers_of, is_use_of, uses_of}
@@ -42,7 +42,7 @@ rows_numbered c i zero = refl
 rows_numbered c i (suc n) = ap (◌∷◌ (row_at c i)) (rows_numbered c (suc i) n)
 
 -- a sum over the first r of four places
-sum_first : (S : Semiring) (L : Laws S) (r : ℕ) (f : ℕ → S.Carrier) → r ≤ 4 → sum S (below r) f ≡ sum S (below 4) (λ k. only S (ltb k r) (f k))
+sum_first : (S : Operations) (L : Laws S) (r : ℕ) (f : ℕ → S.Carrier) → r ≤ 4 → sum S (below r) f ≡ sum S (below 4) (λ k. only S (ltb k r) (f k))
 sum_first S L zero f l = simp (zero_plus S L)
 sum_first S L (suc zero) f l = simp (zero_plus S L)
 sum_first S L (suc (suc zero)) f l = simp (zero_plus S L)

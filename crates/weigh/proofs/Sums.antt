@@ -3,11 +3,11 @@ use Prim.Native.Nat.{ℕ, zero, suc, ◌+◌, ◌-◌, ◌≤◌, ◌<◌}
 use mathlib.Core.Path.{◌≡◌, refl, sym, ap, ap₂, ◌∙◌}
 use native.Mathlib.Omega.{arith}
 use native.Mathlib.Nat.{add-zero, zero-add}
-use Rattle.theory.specs.Semiring.{Semiring, Laws}
+use Rattle.theory.specs.Semiring.{Operations, Laws}
 use Rattle.theory.specs.Sum.{sum, sum-zero, zero_plus}
 use Rattle.theory.specs.Below.{up_from}
 
-module _ (S : Semiring) (L : Laws S) (f : ℕ → S.Carrier) where
+module _ (S : Operations) (L : Laws S) (f : ℕ → S.Carrier) where
   -- one number more, at the end
   pub sum_more : (i k : ℕ) → sum S (up_from i (suc k)) f ≡ S.plus (sum S (up_from i k) f) (f (i + k))
   sum_more i zero = rw (add-zero i) (L.plus_comm (f i) S.zero)
@@ -17,13 +17,13 @@ module _ (S : Semiring) (L : Laws S) (f : ℕ → S.Carrier) where
       ∙ ap (λ (j : ℕ). S.plus (sum S (up_from i (suc k)) f) (f j)) next
 
 -- equal summands at each number of the range
-pub sum_range : (S : Semiring) (f g : ℕ → S.Carrier) (i k : ℕ) → ((j : ℕ) → i ≤ j → j < i + k → f j ≡ g j) → sum S (up_from i k) f ≡ sum S (up_from i k) g
+pub sum_range : (S : Operations) (f g : ℕ → S.Carrier) (i k : ℕ) → ((j : ℕ) → i ≤ j → j < i + k → f j ≡ g j) → sum S (up_from i k) f ≡ sum S (up_from i k) g
 sum_range S f g i zero same = refl
 sum_range S f g i (suc k) same =
     ap₂ S.plus (same i (omega arith) (omega arith)) (sum_range S f g (suc i) k (λ j l m. same j (omega arith) (omega arith)))
 
 -- a sum over a range is that over the part of it outside of which the summands are zero
-module _ (S : Semiring) (L : Laws S) (f : ℕ → S.Carrier) where
+module _ (S : Operations) (L : Laws S) (f : ℕ → S.Carrier) where
   sum_none : (i k : ℕ) → ((j : ℕ) → i ≤ j → j < i + k → f j ≡ S.zero) → sum S (up_from i k) f ≡ S.zero
   sum_none i k none = sum_range S f (λ j. S.zero) i k none ∙ sum-zero S L (up_from i k)
 

@@ -9,14 +9,14 @@ use lib.Dec.{T, eqb, eqb→eq, ltb, ltb→lt}
 use lib.ListN.{get_or}
 use Rattle.model.specs.Table.{Transition, Ascending, key, lower}
 use Rattle.theory.specs.Equality.{of_true}
-use Rattle.theory.specs.Semiring.{Semiring}
+use Rattle.theory.specs.Semiring.{Operations}
 use Rattle.theory.specs.Sum.{sum}
 use Rattle.theory.specs.Below.{up_from}
 use Rattle.tables.specs.Record.{Columns, row_at, rows_from}
 use Rattle.weigh.specs.Index.{Begins, Rising}
 
 -- a sum over transitions is a sum over their numbers
-pub sum_rows : (S : Semiring) (f : Transition → S.Carrier) (c : Columns) (m k : ℕ) → sum S (rows_from c m k) f ≡ sum S (up_from m k) (λ j. f (row_at c j))
+pub sum_rows : (S : Operations) (f : Transition → S.Carrier) (c : Columns) (m k : ℕ) → sum S (rows_from c m k) f ≡ sum S (up_from m k) (λ j. f (row_at c j))
 unfolding rows_from
 sum_rows S f c m zero = refl
 sum_rows S f c m (suc k) = ap (S.plus (f (row_at c m))) (sum_rows S f c (suc m) k)

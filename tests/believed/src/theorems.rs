@@ -64,7 +64,7 @@ const THEOREMS: &[(&str, &[&str])] = &[
             "shrink_tells",
         ],
     ),
-    ("theory/proofs/Laws.antt", &["laws"]),
+    ("theory/proofs/Laws.antt", &["laws", "semiring"]),
     ("theory/proofs/Bound.antt", &["weight_bound"]),
     ("theory/specs/Equivalence.antt", &["equivalence_blocks"]),
 ];
@@ -84,7 +84,14 @@ pub fn roots(sources: &Sources) -> Result<Vec<Id>, String> {
     for (place, names) in THEOREMS {
         for name in *names {
             match &sources.find(place, name)[..] {
-                [theorem] => found.extend(sources.named_by(theorem)?),
+                [theorem] => {
+                    // one that is itself a definition holds proofs: a law that it names is checked and not believed
+                    let holds_proofs = sources.item(theorem).is_definition();
+                    let named = sources.named_by(theorem)?.into_iter();
+                    found.extend(
+                        named.filter(|id| !holds_proofs || sources.item(id).is_definition()),
+                    );
+                }
                 [] => return Err(format!("{place} has no theorem {name}")),
                 _ => return Err(format!("{place} has more than one theorem {name}")),
             }

@@ -100,7 +100,7 @@ adds them up. Whoever begins in both directions alike merges too little.",
     keeps_weights: Some(
         "\
 Nor does a larger one, nor any tree in another table: the blocks are a backward bisimulation, only not the coarsest, and every
-bisimulation's collapse keeps all weights (`collapsed_value` in `crates/theory/specs/KeptWeight.antt`). The error is that the table stays
+bisimulation's collapse keeps all weights (`collapsed_value` in `crates/theory/proofs/KeptWeight.antt`). The error is that the table stays
 larger than it need be, and no weighing finds it.",
     ),
     lemma: "blocks_split_by_finals",
