@@ -1,5 +1,4 @@
 -- Why no number stands at a place, told from the bytes alone: the table ends (1), the number is padded (2), or it is too large (19).
--- The reader names exactly the one that is met, and no number is both padded and too large (document 02, M-104).
 use Rattle.std.specs.Prelude.{ℕ, ◌+◌, ◌≤◌, ◌<◌, ◌≡◌, List, length, get_or}
 use Rattle.answers.specs.declared.Refusal.{Refusal}
 use Rattle.answers.specs.declared.Refusal.TheVariants.{TableEnds, PaddedNumber, LargeNumber}

@@ -1,4 +1,4 @@
--- How far a reading of a table reaches: no refusal's figure is above 65,416, and no answer depends on a byte behind the first 65,416.
+-- How far a reading of a table reaches: what it means that it is decided by so many bytes, and that the steps of a reading are.
 use Prim.Native.Nat.{ℕ, zero, suc, ◌+◌, ◌*◌, ◌-◌, ◌≤◌, ◌<◌, ◌^◌}
 use Rattle.std.specs.Prelude.{◌≡◌, refl, Bool, true, false, cond, ◌&&◌, take, T, leb, ltb, eqb}
 use Rattle.std.proofs.Common.{sym, ap, ◌∙◌, subst, arith, get_or-take, length-take-le}

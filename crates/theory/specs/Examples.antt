@@ -88,5 +88,3 @@ pub record Examples : Type 0 where
   pub p10_4 : meaning 1 4 ≡ number (neg_ℤ (pos 2))
   pub p10_greatest : meaning 1 4294967295 ≡ number (pos 2147483647)
   pub p10_least : meaning 1 4294967294 ≡ number (neg_ℤ (pos 2147483647))
-
--- a table over a and g is within 01's bounds

@@ -1,4 +1,4 @@
--- Sequences of collapses: every tree keeps its value, and the last collapse, made again, gives the same table (demand 3).
+-- Sequences of collapses (demand 3).
 use Rattle.model.specs.Table.{Table}
 use Rattle.theory.specs.Direction.{Direction}
 use Rattle.theory.specs.Collapse.{CollapsedByCoarsest}

@@ -1,4 +1,4 @@
--- The uses of a table's states in each direction, and that two states agree exactly when they have equal grades and the same profile.
+-- The uses of a table's states in each direction, and agreement by them: equal grades and the same profile.
 use Rattle.std.specs.Prelude.{get_or}
 use mathlib.Core.List.{List, [], ◌∷◌, map, flat_map}
 use Prim.Native.Nat.{ℕ, zero, suc}
