@@ -6,7 +6,8 @@ use native.Mathlib.Omega.{arith}
 use lib.Dec.{eqb}
 use Rattle.model.specs.Table.{Transition, Each}
 use Rattle.theory.specs.Blocks.{member}
-use Rattle.theory.specs.Direction.{Direction, backward, forward}
+use Rattle.theory.specs.declared.Direction.{Direction}
+use Rattle.theory.specs.declared.Direction.TheVariants.{Backward as backward, Forward as forward}
 use Rattle.model.proofs.Each.{map_each}
 use Rattle.theory.specs.Entry.{key_at, Between}
 use Rattle.theory.specs.Equality.{same_list}

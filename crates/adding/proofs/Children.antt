@@ -1,26 +1,10 @@
--- The loops over the children of a transition: the key of their blocks, and whether each is named.
-use Prim.Native.Nat.{ℕ, ◌+◌, ◌*◌, ◌≤◌, ◌<◌}
-use mathlib.Core.Path.{◌≡◌, refl, sym, ap, ◌∙◌}
-use mathlib.Core.Bool.{Bool, true, false, ◌&&◌}
-use mathlib.Core.List.{List, [], ◌∷◌, map}
-use native.Mathlib.Omega.{arith}
-use native.Mathlib.Numerals.{add-one}
-use lib.Dec.{eqb}
-use lib.ListN.{length, get_or, take, drop, length-drop, drop_of_length-le}
-use lib.Seq.{drop-cons, get_or-take, get_or-drop, length-take-le}
-use Rattle.profiles.specs.Packing.{packed, room, room_next}
-use Rattle.adding.specs.Named.{all_named}
-
--- the children of transition j
-abbrev pub kids_of : List ℕ → ℕ → ℕ → List ℕ
-kids_of children rank j = take rank (drop (j * 4) children)
-
-module _ (children : List ℕ) (rank j : ℕ) (long : length children ≡ 16000) (inside : j < 4000) (few : rank ≤ 4) where
-  pub kids_many : length (kids_of children rank j) ≡ rank
-  kids_many = length-take-le rank (drop (j * 4) children) (simp length-drop (omega arith))
-
-  pub kids_at : (k : ℕ) → k < rank → get_or (kids_of children rank j) k 0 ≡ get_or children (j * 4 + k) 0
-  kids_at k h = get_or-take rank (drop (j * 4) children) k 0 h ∙ get_or-drop (j * 4) children k 0
+-- The children of a transition: the key of their blocks, and whether each is named.
+use Rattle.std.proofs.Common.{ℕ, suc, ◌+◌, ◌*◌, ◌≤◌, ◌<◌, ◌≡◌, refl, sym, ap, ap₂, ◌∙◌, arith, Bool, false, List, [], ◌∷◌, map, length, get_or, drop, drop-cons, add-one}
+use mathlib.Core.Bool.{◌&&◌}
+use lib.ListN.{drop_of_length-le}
+use Rattle.std.specs.List.{list_all}
+use Rattle.profiles.specs.Packing.{packed, room, room_next, room_ascends}
+use Rattle.adding.specs.Named.{NamedBy, all_named}
 
 module _ (qs : List ℕ) (k : ℕ) where
   from_next : k < length qs → drop k qs ≡ get_or qs k 0 ∷ drop (k + 1) qs
@@ -32,42 +16,23 @@ module _ (qs : List ℕ) (k : ℕ) where
 module _ (b : ℕ → ℕ) (qs : List ℕ) where
   -- the blocks of the states before place k are packed in n
   pub record Keying (n k : ℕ) : Type 0 where
-    pub some : k ≤ length qs
     pub rest : packed n (map b (drop k qs)) ≡ packed 0 (map b qs)
     pub fits : n < room k
-
-  pub keying_starts : Keying 0 0
-  keying_starts = record { some = omega arith; rest = refl; fits = omega arith }
+    pub small : n < 4294967296
 
   module _ (n k : ℕ) (so_far : Keying n k) where
-    pub keying_goes_on : k < length qs → (D : ℕ) → D ≡ b (get_or qs k 0) → D < 256 → Keying (n * 256 + D) (k + 1)
-    keying_goes_on more D e small = record {
-      some = omega arith;
+    pub keying_goes_on : length qs ≤ 4 → k < length qs → (D : ℕ) → D ≡ b (get_or qs k 0) → D < 256 → Keying (n * 256 + D) (k + 1)
+    keying_goes_on few more D e byte = record {
       rest = ap (λ (x : ℕ). packed (n * 256 + x) (map b (drop (k + 1) qs))) e ∙ ap (λ (ps : List ℕ). packed n (map b ps)) (sym (from_next qs k more)) ∙ so_far.rest;
-      fits = room_next n k D so_far.fits small;
+      fits = room_next n k D so_far.fits byte;
+      small = omega (arith, room_next n k D so_far.fits byte, room_ascends (k + 1) 4 (omega arith));
     }
 
     pub keying_ends : length qs ≤ k → n ≡ packed 0 (map b qs)
     keying_ends done = ap (λ (ps : List ℕ). packed n (map b ps)) (sym (from_end qs k done)) ∙ so_far.rest
 
-module _ (b r : ℕ → ℕ) (qs : List ℕ) where
-  -- the states before place k are named
-  pub record Checking (k : ℕ) : Type 0 where
-    pub some : k ≤ length qs
-    pub rest : all_named b r (drop k qs) ≡ all_named b r qs
-
-  pub checking_starts : Checking 0
-  checking_starts = record { some = omega arith; rest = refl }
-
-  module _ (k : ℕ) (so_far : Checking k) where
-    opened : k < length qs → (c : Bool) → eqb (r (b (get_or qs k 0))) (get_or qs k 0) ≡ c → (c && all_named b r (drop (k + 1) qs)) ≡ all_named b r qs
-    opened more c e = ap (λ (d : Bool). d && all_named b r (drop (k + 1) qs)) (sym e) ∙ ap (all_named b r) (sym (from_next qs k more)) ∙ so_far.rest
-
-    pub checking_goes_on : k < length qs → eqb (r (b (get_or qs k 0))) (get_or qs k 0) ≡ true → Checking (k + 1)
-    checking_goes_on more e = record { some = omega arith; rest = opened more true e }
-
-    pub checking_fails : k < length qs → eqb (r (b (get_or qs k 0))) (get_or qs k 0) ≡ false → false ≡ all_named b r qs
-    checking_fails more e = opened more false e
-
-    pub checking_ends : length qs ≤ k → true ≡ all_named b r qs
-    checking_ends done = ap (all_named b r) (sym (from_end qs k done)) ∙ so_far.rest
+-- the flags say of all the states whether they are named
+pub all_flagged : (b r : ℕ → ℕ) (named : List Bool) → NamedBy b r named → (qs : List ℕ) → ((i : ℕ) → get_or qs i 0 < 256)
+    → list_all (λ q. get_or named q false) qs ≡ all_named b r qs
+all_flagged b r named by [] bytes = refl
+all_flagged b r named by (q ∷ qs) bytes = ap₂ ◌&&◌ (by q (bytes 0)) (all_flagged b r named by qs (λ i. bytes (suc i)))

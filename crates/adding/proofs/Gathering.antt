@@ -6,34 +6,30 @@ use mathlib.Core.List.{List, [], ◌∷◌, ◌++◌, append-nil}
 use native.Mathlib.Omega.{arith}
 use native.Mathlib.Nat.{sub-zero}
 use native.Mathlib.Numerals.{add-one}
-use lib.Dec.{eqb}
 use lib.ListN.{length, set, length-set}
 use lib.Seq.{append_snoc}
-use Rattle.model.specs.Table.{Transition}
-use Rattle.theory.specs.Direction.{Direction, backward, forward}
+use Rattle.theory.specs.declared.Direction.{Direction}
 use Rattle.tables.specs.Record.{Columns, row_at, rows_from}
 use Rattle.profiles.specs.Entries.{Entry, entries, entries_none}
 use Rattle.profiles.specs.Kept.{entries_put}
-use Rattle.adding.specs.Named.{all_named, counted}
+use Rattle.adding.specs.Named.{counted}
 use Rattle.adding.specs.Rows.{entry_of, gathered, Gathered}
-
--- its code does not decide whether a transition counts
-pub counted_same : (b r : ℕ → ℕ) (d : Direction) (t u : Transition) → t.children ≡ u.children → t.target ≡ u.target → counted b r d t ≡ counted b r d u
-counted_same b r backward t u e f = ap (λ (q : ℕ). eqb (r (b q)) q) f
-counted_same b r forward t u e f = ap (all_named b r) e
 
 module _ (b r : ℕ → ℕ) (d : Direction) (c : Columns) (count : ℕ) where
   -- the transitions before transition j are gathered, and those from there on make up the rest
   pub record Gathering (keys codes : List ℕ) (many j : ℕ) : Type 0 where
-    pub some : j ≤ count
     pub few : many ≤ j
     pub rest : entries keys codes 0 many ++ gathered b r d (rows_from c j (count - j)) ≡ gathered b r d (rows_from c 0 count)
     pub keys_long : length keys ≡ 16000
     pub codes_long : length codes ≡ 16000
 
   pub gathering_starts : (keys codes : List ℕ) → length keys ≡ 16000 → length codes ≡ 16000 → Gathering keys codes 0 0
-  gathering_starts keys codes kl cl =
-      record { some = omega arith; few = omega arith; rest = rw (entries_none keys codes 0 0 (omega arith), sub-zero count); keys_long = kl; codes_long = cl }
+  gathering_starts keys codes keys_long codes_long = record {
+    few = omega arith;
+    rest = rw (entries_none keys codes 0 0 (omega arith), sub-zero count);
+    keys_long = keys_long;
+    codes_long = codes_long;
+  }
 
   module _ (keys codes : List ℕ) (many j : ℕ) (so_far : Gathering keys codes many j) where
     left : List Entry
@@ -58,7 +54,6 @@ module _ (b r : ℕ → ℕ) (d : Direction) (c : Columns) (count : ℕ) where
         entries_put keys codes many key code 0 (omega arith) (omega (arith, so_far.keys_long)) (omega (arith, so_far.codes_long))
         ∙ ap₂ (λ (x y : ℕ). entries keys codes 0 many ++ (record { key = x; code = y } ∷ [])) k w in
         record {
-          some = omega arith;
           few = omega arith;
           rest = ap (λ (es : List Entry). es ++ left) put ∙ append_snoc (entries keys codes 0 many) (entry_of b (row_at c j)) left ∙ opened more true e;
           keys_long = length-set keys many key ∙ so_far.keys_long;
@@ -68,14 +63,14 @@ module _ (b r : ℕ → ℕ) (d : Direction) (c : Columns) (count : ℕ) where
     pub gathering_skips : j < count → counted b r d (row_at c j) ≡ false → Gathering keys codes many (j + 1)
     unfolding left
     gathering_skips more e =
-        record { some = omega arith; few = omega (arith, so_far.few); rest = opened more false e; keys_long = so_far.keys_long; codes_long = so_far.codes_long }
+        record { few = omega (arith, so_far.few); rest = opened more false e; keys_long = so_far.keys_long; codes_long = so_far.codes_long }
 
-    pub gathering_ends : count ≤ j → Gathered (gathered b r d (rows_from c 0 count)) count keys codes many
+    pub gathering_ends : j ≤ count → count ≤ j → Gathered (gathered b r d (rows_from c 0 count)) count keys codes many
     unfolding rows_from
-    gathering_ends done =
+    gathering_ends some done =
         let none : count - j ≡ 0 = omega arith in
         record {
-          few = omega (arith, so_far.few, so_far.some);
+          few = omega (arith, so_far.few);
           held = sym (append-nil (entries keys codes 0 many)) ∙ ap (λ (k : ℕ). entries keys codes 0 many ++ gathered b r d (rows_from c j k)) (sym none) ∙ so_far.rest;
           keys_long = so_far.keys_long;
           codes_long = so_far.codes_long;

@@ -1,7 +1,6 @@
 pub mod Agreeing
 pub mod Ascent
 pub mod Children
-pub mod Digits
 pub mod Gathering
 pub mod Naming
 pub mod Packing

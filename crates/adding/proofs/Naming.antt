@@ -1,6 +1,6 @@
 -- The loop that names a member of each block.
 use Prim.Native.Nat.{ℕ, suc, ◌+◌, ◌≤◌, ◌<◌}
-use mathlib.Core.Path.{◌≡◌, sym, ◌∙◌, subst}
+use mathlib.Core.Path.{◌≡◌, refl, sym, ◌∙◌}
 use mathlib.Core.List.{List}
 use native.Mathlib.Omega.{arith}
 use native.Mathlib.Decide.{ℕ_discrete}
@@ -14,30 +14,27 @@ use Rattle.theory.specs.AddingUp.{Names}
 use Rattle.theory.proofs.AddingUp.{member_names}
 use Rattle.adding.specs.Named.{name_of, Greatest}
 
--- of the states below q the greatest in each block is named
-pub record Naming (b : ℕ → ℕ) (n : ℕ) (names : List ℕ) (q : ℕ) : Type 0 where
-  pub some : q ≤ n
-  pub long : length names ≡ 256
-  pub greatest : Greatest b q names
+module _ (b : ℕ → ℕ) where
+  -- of the states below q the greatest in each block is named
+  pub record Naming (names : List ℕ) (q : ℕ) : Type 0 where
+    pub long : length names ≡ 256
+    pub greatest : Greatest b q names
 
-module _ (b : ℕ → ℕ) (n : ℕ) where
-  pub naming_starts : Naming b n (replicate 256 0) 0
-  naming_starts = record { some = omega arith; long = length-replicate {A = ℕ} 256 0; greatest = λ D l. get_or-replicate 256 D 0 0 l }
+  pub naming_starts : Naming (replicate 256 0) 0
+  naming_starts = record { long = length-replicate {A = ℕ} 256 0; greatest = λ D l. get_or-replicate 256 D 0 0 l }
 
-  pub naming_goes_on : (names : List ℕ) (q : ℕ) → Naming b n names q → q < n → (D p : ℕ) → D ≡ b q → D < 256 → p ≡ q → Naming b n (set names D p) (q + 1)
-  naming_goes_on names q so_far more D p e few f = record {
-    some = omega arith;
-    long = length-set names D p ∙ so_far.long;
+  -- the next state is named for its block
+  pub naming_goes_on : (names : List ℕ) (q : ℕ) → Naming names q → (D : ℕ) → D ≡ b q → D < 256 → Naming (set names D q) (q + 1)
+  naming_goes_on names q so_far D e few = record {
+    long = length-set names D q ∙ so_far.long;
     greatest = λ C l. rw (add-one q) (go C l (ℕ_discrete C D));
   }
     where
-      go : (C : ℕ) → C < 256 → Dec (C ≡ D) → name_of (set names D p) C ≡ member b (suc q) C
-      go C l (yes d) = rw (eq-eqb (b q) C (sym e ∙ sym d), d, get_or-set_same names D p 0 (omega (arith, so_far.long))) f
-      go C l (no d) = rw (ne_eqb (b q) C (λ g. d (sym g ∙ sym e)), get_or-set_other names D C p 0 d) (so_far.greatest C l)
+      go : (C : ℕ) → C < 256 → Dec (C ≡ D) → name_of (set names D q) C ≡ member b (suc q) C
+      go C l (yes d) = rw (eq-eqb (b q) C (sym e ∙ sym d), d, get_or-set_same names D q 0 (omega (arith, so_far.long))) refl
+      go C l (no d) = rw (ne_eqb (b q) C (λ g. d (sym g ∙ sym e)), get_or-set_other names D C q 0 d) (so_far.greatest C l)
 
-  pub naming_ends : (names : List ℕ) (q : ℕ) → Naming b n names q → n ≤ q → Greatest b n names
-  naming_ends names q so_far done = let e : q ≡ n = omega (arith, so_far.some) in subst (λ (m : ℕ). Greatest b m names) e so_far.greatest
-
+module _ (b : ℕ → ℕ) (n : ℕ) where
   -- the greatest members are members
   pub greatest_names : FirstUse n b → n ≤ 256 → (names : List ℕ) → Greatest b n names → Names n b (name_of names)
   greatest_names numbered few names greatest = record {

@@ -13,7 +13,8 @@ use Rattle.theory.specs.Semiring.{Operations, Laws}
 use Rattle.theory.specs.Sum.{only, sum_same, sum-each, sum-map, sum-met, only_zero, zero_plus}
 use Rattle.theory.specs.Grouping.{key_sum, key_sums_through}
 use Rattle.theory.specs.Arithmetic.{arithmetic, Weight, meaning, meaning_zero, meaning_nonzero}
-use Rattle.theory.specs.Direction.{Direction, backward, forward}
+use Rattle.theory.specs.declared.Direction.{Direction}
+use Rattle.theory.specs.declared.Direction.TheVariants.{Backward as backward, Forward as forward}
 use Rattle.theory.specs.Order.{number_order}
 use Rattle.theory.specs.Listing.{Rising, listed_member, sum_listed}
 use Rattle.theory.specs.Entry.{block_key, weight_at_key}

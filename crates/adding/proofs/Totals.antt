@@ -31,14 +31,12 @@ module _ (a n : ℕ) (finals : List ℕ) (b : ℕ → ℕ) where
 
   -- the members below q are added up, and what is left makes up the whole
   pub record Totalling (sums : List ℕ) (q : ℕ) : Type 0 where
-    pub some : q ≤ n
     pub long : length sums ≡ 256
     pub own : (D : ℕ) → D < 256 → get_or sums D 0 ≡ code_of a (meaning a (get_or sums D 0))
     pub rest : (D : ℕ) → D < 256 → S.plus (meaning a (get_or sums D 0)) (sum S (up_from q (n - q)) (share D)) ≡ finals_added a n finals b D
 
   pub totalling_starts : Totalling (replicate 256 0) 0
   totalling_starts = record {
-    some = omega arith;
     long = length-replicate {A = ℕ} 256 0;
     own = λ D l. rw (get_or-replicate {A = ℕ} 256 D 0 0 l, meaning_zero a) (sym (code_of_zero a));
     rest = λ D l. rw (get_or-replicate {A = ℕ} 256 D 0 0 l, meaning_zero a, sub-zero n) (zero_plus S L _);
@@ -48,7 +46,6 @@ module _ (a n : ℕ) (finals : List ℕ) (b : ℕ → ℕ) where
     pub totalling_goes_on : q < n → (C new : ℕ) → C ≡ b q → C < 256
         → new ≡ code_of a (S.plus (meaning a (get_or sums C 0)) (meaning a (get_or finals q 0))) → Totalling (set sums C new) (q + 1)
     totalling_goes_on more C new e few f = record {
-      some = omega arith;
       long = length-set sums C new ∙ so_far.long;
       own = λ D l. own_next D l (ℕ_discrete D C);
       rest = λ D l. rest_next D l (ℕ_discrete D C);

@@ -1,50 +1,21 @@
 -- The loop that makes a transition of each entry, and the table that has these transitions.
-use Prim.Native.Nat.{ℕ, zero, suc, ◌+◌, ◌*◌, ◌/◌, ◌%◌, ◌≤◌, ◌<◌}
+use Prim.Native.Nat.{ℕ, zero, suc, ◌+◌, ◌*◌, ◌≤◌, ◌<◌}
 use mathlib.Core.Path.{◌≡◌, refl, sym, ap, ap₂, ◌∙◌, subst}
 use mathlib.Core.List.{List, ◌∷◌, map}
 use native.Mathlib.Omega.{arith}
 use native.Mathlib.Nat.{sub-zero}
 use borrow.Author.Count.{below_more}
-use lib.ListN.{get_or, take, drop, set, length-set}
-use lib.Seq.{get_or-take, get_or-set_same, take-set-le}
+use lib.ListN.{get_or, take, drop}
+use lib.Seq.{get_or-take}
 use Rattle.model.specs.Table.{Transition}
-use Rattle.tables.specs.Rows.{part_of_front}
-use Rattle.tables.specs.Record.{Columns, columns, row_at, rows_from, table_in}
-use Rattle.tables.specs.Steps.{Kept, Long}
-use Rattle.profiles.specs.Entries.{Entry, entry_at, entries_from, entries}
-use Rattle.adding.specs.Keys.{digits, transition_of}
-use Rattle.adding.specs.Rows.{KeyKnown, DigitsPut, RowPut, Unpacked, table_from}
-
--- an entry's numbers, stored as transition i
-module _ (ranks symbol children stored target code : List ℕ) (i key weight : ℕ) (inside : i < 4000)
-    (long : Long (columns ranks symbol children target code)) (σ D : ℕ) (is-symbol : σ ≡ key / 1099511627776) (is-target : D ≡ key % 256)
-    (put : DigitsPut (key / 256) (i * 4) (get_or ranks σ 0) children stored) where
-  pub row_put : RowPut i (transition_of ranks (record { key = key; code = weight })) (columns ranks symbol children target code)
-      (columns ranks (set symbol i σ) stored (set target i D) (set code i weight))
-  row_put =
-      let own : get_or (set symbol i σ) i 0 ≡ σ = get_or-set_same symbol i σ 0 (omega (arith, long.symbol)) in
-      let kids : take (get_or ranks (get_or (set symbol i σ) i 0) 0) (drop (i * 4) stored) ≡ digits (get_or ranks (key / 1099511627776) 0) (key / 256) =
-      ap (λ (τ : ℕ). take (get_or ranks τ 0) (drop (i * 4) stored)) own ∙ put.put ∙ ap (λ (τ : ℕ). digits (get_or ranks τ 0) (key / 256)) is-symbol in
-      let symbol_is : get_or (set symbol i σ) i 0 ≡ key / 1099511627776 = own ∙ is-symbol in
-      let target_is : get_or (set target i D) i 0 ≡ key % 256 = get_or-set_same target i D 0 (omega (arith, long.target)) ∙ is-target in
-      let code_is : get_or (set code i weight) i 0 ≡ weight = get_or-set_same code i weight 0 (omega (arith, long.code)) in
-      record {
-        put = λ t. record { symbol = symbol_is t; children = kids t; target = target_is t; code = code_is t };
-        kept = record {
-          ranks = refl;
-          symbol = take-set-le i symbol i σ (omega arith);
-          children = put.kept;
-          target = take-set-le i target i D (omega arith);
-          code = take-set-le i code i weight (omega arith);
-        };
-        long = record {
-          ranks = long.ranks;
-          symbol = length-set symbol i σ ∙ long.symbol;
-          children = put.long ∙ long.children;
-          target = length-set target i D ∙ long.target;
-          code = length-set code i weight ∙ long.code;
-        };
-      }
+use Rattle.tables.specs.Rows.{part_of_front, columns_of}
+use Rattle.tables.specs.declared.TableRecord.{TableRecord}
+use Rattle.tables.specs.Record.{Columns, columns, row_at, rows_from}
+use Rattle.tables.specs.Steps.{Kept, Long, HeadKept}
+use Rattle.profiles.specs.declared.Entries.{Entries}
+use Rattle.profiles.specs.Entries.{entry_at, entries_from, entries}
+use Rattle.adding.specs.Keys.{transition_of}
+use Rattle.adding.specs.Rows.{KeyKnown, RowPut, Unpacked}
 
 -- a transition that is kept is as it was
 module _ (before columns : Columns) (j : ℕ) (kept : Kept j before columns) (i : ℕ) (below : i < j) (small : get_or before.ranks (get_or before.symbol i 0) 0 ≤ 4) where
@@ -75,20 +46,15 @@ module _ (count : ℕ) (keys codes ranks : List ℕ) where
 
   -- the entries before entry i are transitions
   pub record Unpacking (columns : Columns) (i : ℕ) : Type 0 where
-    pub some : i ≤ count
     pub same_ranks : columns.ranks ≡ ranks
     pub rows : (k : ℕ) → k < i → RowDone columns k
     pub long : Long columns
 
-  pub unpacking_starts : (columns : Columns) → columns.ranks ≡ ranks → Long columns → Unpacking columns 0
-  unpacking_starts columns e long = record { some = omega arith; same_ranks = e; rows = λ k l. absurd (omega arith); long = long }
-
-  pub unpacking_goes_on : (before columns : Columns) (i : ℕ) → Unpacking before i → i < count → KeyKnown ranks (get_or keys i 0)
+  pub unpacking_goes_on : (before columns : Columns) (i : ℕ) → Unpacking before i → KeyKnown ranks (get_or keys i 0)
       → RowPut i (transition_of ranks (entry_at keys codes i)) before columns → Unpacking columns (i + 1)
-  unpacking_goes_on before columns i so_far more known put =
+  unpacking_goes_on before columns i so_far known put =
       let same : columns.ranks ≡ ranks = put.kept.ranks ∙ so_far.same_ranks in
       record {
-        some = omega arith;
         same_ranks = same;
         rows = below_more _ i (λ k l. kept_row k l (so_far.rows k l)) (record {
           row = put.put;
@@ -118,7 +84,32 @@ module _ (count : ℕ) (keys codes ranks : List ℕ) where
         long = so_far.long;
       }
 
-pub unpacked_table : (arithmetic states symbols count : ℕ) (finals : List ℕ) (es : List Entry) (c : Columns) → Unpacked count es c
-    → table_in arithmetic states symbols count finals c ≡ table_from arithmetic states symbols c.ranks finals es
-unpacked_table arithmetic states symbols count finals es c unpacked =
-    λ i. record { arithmetic = arithmetic; states = states; ranks = take symbols c.ranks; finals = take states finals; transitions = unpacked.rows i }
+head_kept : (r s t : TableRecord) → HeadKept r s → HeadKept s t → HeadKept r t
+head_kept r s t p q = record {
+  arithmetic = q.arithmetic ∙ p.arithmetic;
+  states = q.states ∙ p.states;
+  symbols = q.symbols ∙ p.symbols;
+  count = q.count ∙ p.count;
+  ranks = q.ranks ∙ p.ranks;
+  finals = q.finals ∙ p.finals;
+}
+
+-- the entries before entry i are transitions of the table, and the rest of it is as it was
+pub record UnpackingIn (e : Entries) (before after : TableRecord) (i : ℕ) : Type 0 where
+  pub head : HeadKept before after
+  pub rows : Unpacking before.count e.keys e.codes before.ranks (columns_of after) i
+
+module _ (e : Entries) (before after : TableRecord) (i : ℕ) (so_far : UnpackingIn e before after i) where
+  -- entry i is put
+  pub unpacking_in_goes_on : (next : TableRecord) → KeyKnown before.ranks (get_or e.keys i 0)
+      → RowPut i (transition_of after.ranks (entry_at e.keys e.codes i)) (columns_of after) (columns_of next) → HeadKept after next → UnpackingIn e before next (i + 1)
+  unpacking_in_goes_on next known put head = record {
+    head = head_kept before after next so_far.head head;
+    rows = unpacking_goes_on before.count e.keys e.codes before.ranks (columns_of after) (columns_of next) i so_far.rows known
+        (subst (λ (rs : List ℕ). RowPut i (transition_of rs (entry_at e.keys e.codes i)) (columns_of after) (columns_of next)) so_far.head.ranks put);
+  }
+
+  pub unpacking_in_ends : before.count ≤ i → Unpacked after.count (entries e.keys e.codes 0 before.count) (columns_of after)
+  unpacking_in_ends done =
+      subst (λ (count : ℕ). Unpacked count (entries e.keys e.codes 0 before.count) (columns_of after)) (sym so_far.head.count)
+      (unpacking_ends before.count e.keys e.codes before.ranks (columns_of after) i so_far.rows done)

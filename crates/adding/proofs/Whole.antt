@@ -12,10 +12,11 @@ use Rattle.model.specs.Table.{Table, Transition, Each, Proper, ProperTransition}
 use Rattle.model.proofs.Each.{each_implies, each_map, each-get_or}
 use Rattle.theory.specs.Sum.{only, sum-each}
 use Rattle.theory.specs.Below.{below, each_below}
-use Rattle.theory.specs.Arithmetic.{arithmetic, meaning, code_of, code_of-meaning}
+use Rattle.theory.specs.Arithmetic.{arithmetic_number, arithmetic, meaning, code_of, code_of-meaning}
 use Rattle.theory.specs.Blocks.{block_of, block_count_above}
 use Rattle.theory.proofs.Blocks.{block_count_few}
-use Rattle.theory.specs.Direction.{Direction, backward, forward}
+use Rattle.theory.specs.declared.Direction.{Direction}
+use Rattle.theory.specs.declared.Direction.TheVariants.{Backward as backward, Forward as forward}
 use Rattle.theory.specs.Collapse.{block_final, Collapsed}
 use Rattle.theory.specs.Entry.{Between}
 use Rattle.theory.proofs.CollapseProper.{collapsed_proper}
@@ -108,25 +109,22 @@ module _ (d : Direction) (r : TableRecord) (blocks : List ℕ) (number : ℕ) (g
     final_at q l = get_or-take r.states r.finals q 0 l
 
     -- the final code of a block is that of the collapse
-    final_collapsed : (s : Direction) (D : ℕ) → D < number → final_for s r.arithmetic r.states r.finals (block_of blocks) n D ≡ code_of r.arithmetic (block_final X b s (n D))
+    final_collapsed : (s : Direction) (D : ℕ) → D < number → final_for s (arithmetic_number r.arithmetic) r.states r.finals (block_of blocks) n D ≡ code_of (arithmetic_number r.arithmetic) (block_final X b s (n D))
     final_collapsed backward D l =
         let block : b (n D) ≡ D = names_members.named_block D (omega (arith, given.blocks_many)) in
-        ap (code_of r.arithmetic) (sum-each (arithmetic r.arithmetic) (λ p. p < r.states) (below r.states) (each_below r.states) _ _ (λ p k.
-        ap₂ (λ (c : Bool) (code : ℕ). only (arithmetic r.arithmetic) c (meaning r.arithmetic code)) (ap₂ eqb (same_block p k) (sym block)) (sym (final_at p k))))
+        ap (code_of (arithmetic_number r.arithmetic)) (sum-each (arithmetic (arithmetic_number r.arithmetic)) (λ p. p < r.states) (below r.states) (each_below r.states) _ _ (λ p k.
+        ap₂ (λ (c : Bool) (code : ℕ). only (arithmetic (arithmetic_number r.arithmetic)) c (meaning (arithmetic_number r.arithmetic) code)) (ap₂ eqb (same_block p k) (sym block)) (sym (final_at p k))))
     final_collapsed forward D l =
         let known : n D < r.states = names_members.named_known D (omega (arith, given.blocks_many)) in
-        sym (final_at (n D) known) ∙ sym (code_of-meaning r.arithmetic (get_or X.finals (n D) 0) (each-get_or (λ c. c < 2 ^ 32) X.finals (n D) 0 given.proper.finals_fit (omega arith)))
+        sym (final_at (n D) known) ∙ sym (code_of-meaning (arithmetic_number r.arithmetic) (get_or X.finals (n D) 0) (each-get_or (λ c. c < 2 ^ 32) X.finals (n D) 0 given.proper.finals_fit (omega arith)))
 
     module _ (keys codes : List ℕ) (many : ℕ) (held : Gathered (gathered (block_of blocks) n d X.transitions) r.count keys codes many)
-        (keys' codes' : List ℕ) (end : ℕ) (summed : SummedUp r.arithmetic 0 many end keys codes keys' codes') where
+        (keys' codes' : List ℕ) (end : ℕ) (summed : SummedUp (arithmetic_number r.arithmetic) 0 many end keys codes keys' codes') where
       abbrev es : List Entry
       es = entries keys' codes' 0 end
 
-      pub few_entries : end ≤ 4000
-      few_entries = omega (arith, summed.within, held.few, few_transitions)
-
-      sums_same : (j : ℕ) → sum_at r.arithmetic es j ≡ sum_at r.arithmetic (gathered b n d X.transitions) j
-      sums_same j = summed.sums j ∙ ap (λ (fs : List Entry). sum_at r.arithmetic fs j) (held.held ∙ gathered_same (block_of blocks) b n d r.states same_block X.transitions
+      sums_same : (j : ℕ) → sum_at (arithmetic_number r.arithmetic) es j ≡ sum_at (arithmetic_number r.arithmetic) (gathered b n d X.transitions) j
+      sums_same j = summed.sums j ∙ ap (λ (fs : List Entry). sum_at (arithmetic_number r.arithmetic) fs j) (held.held ∙ gathered_same (block_of blocks) b n d r.states same_block X.transitions
           (each_implies (ProperTransition X.ranks X.states) (Between X.states) (λ t p. (p.children_known, p.target_known)) X.transitions given.proper.transitions_proper))
 
       known : Each (Known r.ranks) es
@@ -140,10 +138,10 @@ module _ (d : Direction) (r : TableRecord) (blocks : List ℕ) (number : ℕ) (g
           known_key r.ranks (entry_at keys' codes' i) k
 
       module _ (finals : List ℕ) (finals_long : length finals ≡ 256)
-          (finals-are : (D : ℕ) → D < number → get_or finals D 0 ≡ final_for d r.arithmetic r.states r.finals (block_of blocks) n D) where
+          (finals-are : (D : ℕ) → D < number → get_or finals D 0 ≡ final_for d (arithmetic_number r.arithmetic) r.states r.finals (block_of blocks) n D) where
         -- the table that is made
         abbrev made : Table
-        made = table_from r.arithmetic number r.symbols r.ranks finals es
+        made = table_from (arithmetic_number r.arithmetic) number r.symbols r.ranks finals es
 
         of_rows : (P : Transition → Type 0) → Each (λ e. P (transition_of r.ranks e)) es → Each P made.transitions
         of_rows P h = each_map P (transition_of r.ranks) es h

@@ -3,7 +3,8 @@ use Rattle.std.specs.Prelude.{ℕ, ◌≡◌, List, take}
 use Rattle.model.specs.Table.{Proper}
 use Rattle.theory.specs.Blocks.{block_of, block_count, FirstUse}
 use Rattle.theory.specs.Collapse.{Collapsed}
-use Rattle.theory.specs.Direction.{Direction, Bisimulation}
+use Rattle.theory.specs.declared.Direction.{Direction}
+use Rattle.theory.specs.Direction.{Bisimulation}
 use Rattle.tables.specs.Record.{table_of, Holds}
 use Rattle.tables.specs.declared.TableRecord.{TableRecord}
 

@@ -1,12 +1,8 @@
 -- Keys as numbers: the symbol and the blocks of a transition, packed into one.
-use Rattle.std.specs.Prelude.{ℕ, zero, suc, ◌+◌, ◌*◌, ◌/◌, ◌%◌, ◌<◌, List, [], ◌∷◌, ◌++◌, get_or}
+use Rattle.std.specs.Prelude.{ℕ, zero, suc, ◌+◌, ◌*◌, ◌/◌, ◌%◌, List, [], ◌∷◌, ◌++◌, get_or}
 use Rattle.model.specs.Table.{Transition}
 use Rattle.profiles.specs.Entries.{Entry}
 use Rattle.profiles.specs.Packing.{packed}
-
--- the numbers of a list of 256 have eight bits
-abbrev pub Bytes : List ℕ → Type 0
-Bytes ns = (i : ℕ) → i < 256 → get_or ns i 0 < 256
 
 -- a key as one number: the symbol stands above 40 bits for the children's blocks and the target's
 abbrev pub pack : List ℕ → ℕ

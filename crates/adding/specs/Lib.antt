@@ -3,3 +3,4 @@ pub mod Named
 pub mod Finals
 pub mod Rows
 pub mod Collapsing
+pub mod Tables

@@ -3,7 +3,8 @@ use Rattle.std.specs.Prelude.{ℕ, ◌<◌, ◌≡◌, Bool, false, List, map, e
 use Rattle.model.specs.Table.{Transition}
 use Rattle.theory.specs.Equality.{same_list}
 use Rattle.theory.specs.Blocks.{member}
-use Rattle.theory.specs.Direction.{Direction, backward, forward}
+use Rattle.theory.specs.declared.Direction.{Direction}
+use Rattle.theory.specs.declared.Direction.TheVariants.{Backward as backward, Forward as forward}
 
 -- the member that stands for a block, from a list with one for each block
 abbrev pub name_of : List ℕ → ℕ → ℕ

@@ -1,13 +1,13 @@
 -- The transitions of a record as entries, and entries as transitions of a record.
-use Rattle.std.specs.Prelude.{ℕ, ◌/◌, ◌≤◌, ◌<◌, ◌≡◌, cond, List, [], ◌∷◌, map, length, get_or, take, drop}
+use Rattle.std.specs.Prelude.{ℕ, ◌/◌, ◌≤◌, ◌<◌, ◌≡◌, cond, List, [], ◌∷◌, map, length, get_or, take}
 use Rattle.model.specs.Table.{Table, Transition}
-use Rattle.theory.specs.Direction.{Direction}
+use Rattle.theory.specs.declared.Direction.{Direction}
 use Rattle.theory.specs.Entry.{block_key}
 use Rattle.tables.specs.Rows.{Row}
 use Rattle.tables.specs.Record.{Columns, row_at, rows_from}
 use Rattle.tables.specs.Steps.{Kept, Long}
 use Rattle.profiles.specs.Entries.{Entry, entries}
-use Rattle.adding.specs.Keys.{pack, digits, transition_of}
+use Rattle.adding.specs.Keys.{pack, transition_of}
 use Rattle.adding.specs.Named.{counted}
 
 -- the first so many transitions can be read
@@ -34,12 +34,6 @@ pub record Gathered (es : List Entry) (count : ℕ) (keys codes : List ℕ) (man
 pub record KeyKnown (ranks : List ℕ) (key : ℕ) : Type 0 where
   pub known : key / 1099511627776 < 128
   pub rank_small : get_or ranks (key / 1099511627776) 0 ≤ 4
-
--- the last k numbers of eight bits stand in the array from a place on, and what stood before that place is as it was
-pub record DigitsPut (n from k : ℕ) (before array : List ℕ) : Type 0 where
-  pub put : take k (drop from array) ≡ digits k n
-  pub kept : take from array ≡ take from before
-  pub long : length array ≡ length before
 
 -- transition i of the columns is t, and those before it are as they were
 pub record RowPut (i : ℕ) (t : Transition) (before columns : Columns) : Type 0 where

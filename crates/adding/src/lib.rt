@@ -3,357 +3,221 @@
 
 #![tactic(auto)]
 
-ghost use Rattle.std.specs.Prelude.{◌≡◌, ℕ, ◌+◌, ◌*◌, ◌≤◌, ◌<◌, false, [], length, get_or};
-ghost use Rattle.theory.specs.Arithmetic.{code_of};
+ghost use Rattle.std.specs.Prelude.{◌≡◌, false, ℕ, ◌≤◌, ◌<◌, length, get_or};
+ghost use Rattle.std.specs.List.{list_all};
+ghost use Rattle.theory.specs.Arithmetic.{arithmetic_number, code_of};
 ghost use Rattle.theory.specs.Blocks.{block_of};
-ghost use Rattle.theory.specs.Direction.{direction as side_of};
 ghost use Rattle.theory.specs.Entry.{block_key};
-ghost use Rattle.tables.specs.Record.{columns, row_at, rows_from, table_of};
-ghost use Rattle.tables.specs.Steps.{Long};
-ghost use Rattle.profiles.specs.Entries.{entries};
-ghost use Rattle.adding.specs.Keys.{Bytes, pack, transition_of};
-ghost use Rattle.adding.specs.Named.{name_of, Greatest, NamedBy, all_named, counted};
-ghost use Rattle.adding.specs.Finals.{finals_added, final_for};
-ghost use Rattle.tables.specs.Rows.{Row};
-ghost use Rattle.adding.specs.Rows.{Rows, gathered, Gathered, KeyKnown, DigitsPut, RowPut, Unpacked, table_from};
+ghost use Rattle.tables.specs.Record.{table_of};
+ghost use Rattle.tables.specs.Steps.{HeadKept};
+ghost use Rattle.adding.specs.Keys.{digits, pack};
+ghost use Rattle.adding.specs.Named.{name_of, Greatest, NamedBy, counted};
+ghost use Rattle.adding.specs.Finals.{final_in, finals_added_in};
+ghost use Rattle.adding.specs.Rows.{KeyKnown};
+ghost use Rattle.tables.specs.Rows.{RowIn};
+ghost use Rattle.adding.specs.Tables.{RowsIn, row_in, entry_in, first_entries, GatheredIn, RowPutIn, UnpackedIn, table_from_entries};
 ghost use Rattle.adding.specs.Collapsing.{Collapsible, CollapsedTo};
 
 use partition::{BlockList, NameList};
-use profiles::SYMBOL;
+use profiles::{Entries, Region, SYMBOL};
 use states::{Block, State};
 use tables::TableRecord;
+use theory::Direction;
 
-// The table collapsed by its blocks, of which there are `number`. Keys and codes are lent to work in.
+// The table collapsed by its blocks, of which there are `number`. The entries are lent to work in.
 pub fn add_up(
-    direction: u32,
-    table: TableRecord,
-    blocks: BlockList,
+    direction: Direction,
+    table: &TableRecord,
+    blocks: &BlockList,
     number: usize,
-    keys: &mut [u64; 16000],
-    codes: &mut [u32; 16000],
+    entries: &mut Entries,
 ) -> TableRecord
-    requires { Collapsible (side_of direction) table blocks.list number × (length keys.old ≡ 16000) × (length codes.old ≡ 16000) }
-    ensures { CollapsedTo (side_of direction) table blocks.list result × (length keys.new ≡ 16000) × (length codes.new ≡ 16000) }
+    requires { Collapsible direction table.now blocks.now.list number }
+    ensures { CollapsedTo direction table.now blocks.now.list result }
 {
-    let arithmetic = table.arithmetic;
-    let symbols = table.symbols;
-    let ranks = table.ranks;
     let names = name_members(table.states, blocks);
-    let finals = final_codes(
-        direction,
-        arithmetic,
-        table.states,
-        number,
-        &table.finals,
-        blocks,
-        names,
-    );
-    let many = gather(
-        direction,
-        table.count,
-        &table.ranks,
-        &table.symbol,
-        &table.children,
-        &table.target,
-        &table.code,
-        blocks,
-        names,
-        keys,
-        codes,
-    );
-    let end = profiles::sum_up(arithmetic, keys, codes, 0, many);
-    table_with(arithmetic, number, symbols, end, ranks, finals, keys, codes)
+    let finals = final_codes(direction, table, number, blocks, &names);
+    let many = gather(direction, table, blocks, &names, entries);
+    let region = Region { lo: 0, hi: many };
+    let end = entries.sum_up(table.arithmetic, region);
+    table_with(table, number, end, finals, entries)
 }
 
-// The table with these numbers, ranks and final codes, and with the entries as its transitions.
+// The table with this number of states, these final codes and the first `count` entries as its transitions.
 fn table_with(
-    arithmetic: u32,
+    table: &TableRecord,
     states: usize,
-    symbols: usize,
     count: usize,
-    ranks: [u8; 128],
     finals: [u32; 256],
-    keys: &[u64; 16000],
-    codes: &[u32; 16000],
+    entries: &Entries,
 ) -> TableRecord
-    requires { (count ≤ 4000) × (length keys.now ≡ 16000) × (length codes.now ≡ 16000) × ((i : ℕ) → i < count → KeyKnown ranks (get_or keys.now i 0)) }
-    ensures { (table_of result ≡ table_from arithmetic states symbols ranks finals (entries keys.now codes.now 0 count)) × (result.symbols ≡ symbols) }
+    requires few { count ≤ 4000 }
+    requires known { (i : ℕ) → i < count → KeyKnown table.now.ranks (get_or entries.now.keys i 0) }
+    ensures table { table_of result ≡ table_from_entries table.now states finals (first_entries entries.now count) }
+    ensures symbols { result.symbols ≡ table.now.symbols }
 {
-    let mut symbol = [0u8; 4000];
-    let mut children = [0u8; 16000];
-    let mut target = [0u8; 4000];
-    let mut code = [0u32; 4000];
-    unpack_all(
-        count,
-        &ranks,
-        keys,
-        codes,
-        &mut symbol,
-        &mut children,
-        &mut target,
-        &mut code,
-    );
-    TableRecord {
-        arithmetic,
+    let mut next = TableRecord {
+        arithmetic: table.arithmetic,
         states,
-        symbols,
+        symbols: table.symbols,
         count,
-        ranks,
+        ranks: table.ranks,
         finals,
-        symbol,
-        children,
-        target,
-        code,
-    }
-}
-
-fn wide(byte: u8) -> usize
-    ensures { (result ≡ byte) × (result < 256) }
-{
-    byte as usize
-}
-
-fn long(byte: u8) -> u64
-    ensures { (result ≡ byte) × (result < 256) }
-{
-    byte as u64
+        symbol: [0; 4000],
+        children: [0; 16000],
+        target: [0; 4000],
+        code: [0; 4000],
+    };
+    unpack_all(entries, &mut next);
+    next
 }
 
 // Names the greatest member of each block.
-fn name_members(states: usize, blocks: BlockList) -> NameList
+fn name_members(states: usize, blocks: &BlockList) -> NameList
     requires { states ≤ 256 }
-    ensures { Greatest (block_of blocks.list) states result.list }
+    ensures { Greatest (block_of blocks.now.list) states result.list }
 {
     let mut names = NameList::new();
-    let mut q = 0;
-    while q < states {
+    for q in 0..states {
         let own = State(q as u8);
-        names = names.with(blocks.of(own), own);
-        q += 1;
+        names.set(blocks.of(own), own);
     }
     names
 }
 
 // The final code of each block.
 fn final_codes(
-    direction: u32,
-    arithmetic: u32,
-    states: usize,
+    direction: Direction,
+    table: &TableRecord,
     number: usize,
-    finals: &[u32; 256],
-    blocks: BlockList,
-    names: NameList,
+    blocks: &BlockList,
+    names: &NameList,
 ) -> [u32; 256]
-    requires { (states ≤ 256) × (number ≤ 256) × (length finals.now ≡ 256) }
-    ensures { (length result ≡ 256) × ((D : ℕ) → D < number → get_or result D 0 ≡ final_for (side_of direction) arithmetic states finals.now (block_of blocks.list) (name_of names.list) D) }
+    requires states { table.now.states ≤ 256 }
+    requires blocks { number ≤ 256 }
+    ensures { (D : ℕ) → D < number → get_or result D 0 ≡ final_in direction table.now (block_of blocks.now.list) (name_of names.now.list) D }
 {
-    if direction == 0 {
-        return add_finals(arithmetic, states, finals, blocks);
+    match direction {
+        Direction::Backward => add_finals(table, blocks),
+        Direction::Forward => named_finals(table, number, names),
     }
-    named_finals(number, finals, names)
 }
 
 // Backward: the sum over a block's members.
-fn add_finals(arithmetic: u32, states: usize, finals: &[u32; 256], blocks: BlockList) -> [u32; 256]
-    requires { (states ≤ 256) × (length finals.now ≡ 256) }
-    ensures { (length result ≡ 256) × ((D : ℕ) → D < 256 → get_or result D 0 ≡ code_of arithmetic (finals_added arithmetic states finals.now (block_of blocks.list) D)) }
+fn add_finals(table: &TableRecord, blocks: &BlockList) -> [u32; 256]
+    requires { table.now.states ≤ 256 }
+    ensures { (D : ℕ) → D < 256 → get_or result D 0 ≡ code_of (arithmetic_number table.now.arithmetic) (finals_added_in table.now (block_of blocks.now.list) D) }
 {
-    let mut sums = [0u32; 256];
-    let mut q = 0;
-    while q < states {
-        let block = blocks.of(State(q as u8));
-        let at = wide(block.0);
-        sums[at] = arith::sum_of_codes(arithmetic, sums[at], finals[q]);
-        q += 1;
+    let mut sums = [0; 256];
+    for q in 0..table.states {
+        let at = blocks.of(State(q as u8)).0 as usize;
+        sums[at] = arith::sum_of_codes(table.arithmetic, sums[at], table.finals[q]);
     }
     sums
 }
 
 // Forward: the named member's.
-fn named_finals(number: usize, finals: &[u32; 256], names: NameList) -> [u32; 256]
-    requires { (number ≤ 256) × (length finals.now ≡ 256) }
-    ensures { (length result ≡ 256) × ((D : ℕ) → D < number → get_or result D 0 ≡ get_or finals.now (name_of names.list D) 0) }
+fn named_finals(table: &TableRecord, number: usize, names: &NameList) -> [u32; 256]
+    requires { number ≤ 256 }
+    ensures { (D : ℕ) → D < number → get_or result D 0 ≡ get_or table.now.finals (name_of names.now.list D) 0 }
 {
-    let mut codes = [0u32; 256];
-    let mut block = 0;
-    while block < number {
+    let mut codes = [0; 256];
+    for block in 0..number {
         let q = names.of(Block(block as u8));
-        codes[block] = finals[wide(q.0)];
-        block += 1;
+        codes[block] = table.finals[q.0 as usize];
     }
     codes
 }
 
-fn is_named(q: State, named: &[bool; 256]) -> bool
-    requires { length named.now ≡ 256 }
-    ensures { (q.0 < 256) × (result ≡ get_or named.now q.0 false) }
+// Whether these states are all named. (Each is below 256, as its type says: the caller's proof has it from here.)
+fn are_named(states: &[u8], named: &[bool; 256]) -> bool
+    ensures flags { result ≡ list_all (λ q. get_or named.now q false) states.now }
+    ensures bytes { (i : ℕ) → get_or states.now i 0 < 256 }
 {
-    let i = wide(q.0);
-    named[i]
-}
-
-fn digit_of(q: State, digits: &[u32; 256]) -> u64
-    requires { (length digits.now ≡ 256) × Bytes digits.now }
-    ensures { (q.0 < 256) × (result ≡ block_of digits.now q.0) }
-{
-    let i = wide(q.0);
-    digits[i] as u64
-}
-
-// Whether the children of transition j are all named.
-fn children_named<'a>(
-    j: usize,
-    ranks: &'a [u8; 128],
-    symbol: &'a [u8; 4000],
-    children: &'a [u8; 16000],
-    named: &[bool; 256],
-) -> bool
-    requires { (length ranks.now ≡ 128) × (length symbol.now ≡ 4000) × (length children.now ≡ 16000) × (length named.now ≡ 256) × Row ranks.now symbol.now j }
-    ensures { (b n : ℕ → ℕ) → NamedBy b n named.now → result ≡ all_named b n (row_at (columns ranks.now symbol.now children.now [] []) j).children }
-{
-    let own = wide(symbol[j]);
-    let rank = wide(ranks[own]);
-    let mut k = 0;
-    while k < rank {
-        let child = State(children[j * 4 + k]);
-        if !is_named(child, named) {
-            return false;
-        }
-        k += 1;
-    }
-    true
+    states.iter().all(|q| named[*q as usize])
 }
 
 // Whether transition j counts: backward its target is named, forward its children are.
-fn counts<'a>(
-    direction: u32,
-    j: usize,
-    ranks: &'a [u8; 128],
-    symbol: &'a [u8; 4000],
-    children: &'a [u8; 16000],
-    target: &'a [u8; 4000],
-    named: &[bool; 256],
-) -> bool
-    requires { (length ranks.now ≡ 128) × (length symbol.now ≡ 4000) × (length children.now ≡ 16000) × (length target.now ≡ 4000) × (length named.now ≡ 256) × Row ranks.now symbol.now j }
-    ensures { (b n : ℕ → ℕ) → NamedBy b n named.now → result ≡ counted b n (side_of direction) (row_at (columns ranks.now symbol.now children.now target.now []) j) }
+fn counts(direction: Direction, table: &TableRecord, j: usize, named: &[bool; 256]) -> bool
+    requires { RowIn table.now j }
+    ensures { (b n : ℕ → ℕ) → NamedBy b n named.now → result ≡ counted b n direction (row_in table.now j) }
 {
-    if direction != 0 {
-        return children_named(j, ranks, symbol, children, named);
+    match direction {
+        Direction::Backward => named[table.target[j] as usize],
+        Direction::Forward => are_named(table.children_of(j), named),
     }
-    is_named(State(target[j]), named)
 }
 
-// The key of transition j's blocks, as one number: the symbol, the children's blocks, the target's block.
-fn key_of<'a>(
-    j: usize,
-    ranks: &'a [u8; 128],
-    symbol: &'a [u8; 4000],
-    children: &'a [u8; 16000],
-    target: &'a [u8; 4000],
-    digits: &[u32; 256],
-) -> u64
-    requires { (length ranks.now ≡ 128) × (length symbol.now ≡ 4000) × (length children.now ≡ 16000) × (length target.now ≡ 4000) × (length digits.now ≡ 256) × Bytes digits.now × Row ranks.now symbol.now j }
-    ensures { result ≡ pack (block_key (block_of digits.now) (row_at (columns ranks.now symbol.now children.now target.now []) j)) }
+// The key of transition j's blocks, as one number: the symbol, the children's blocks, the target's block. (The keys of `grouping` are
+// packed by a loop like this one: it is three lines, and reads the blocks from a list of digits, which is not made here.)
+fn key_of(table: &TableRecord, j: usize, blocks: &BlockList) -> u64
+    requires { RowIn table.now j }
+    ensures { result ≡ pack (block_key (block_of blocks.now.list) (row_in table.now j)) }
 {
-    let own = symbol[j];
-    let rank = wide(ranks[wide(own)]);
     let mut packed: u64 = 0;
-    let mut k = 0;
-    while k < rank {
-        packed = packed * 256 + digit_of(State(children[j * 4 + k]), digits);
-        k += 1;
+    for child in table.children_of(j) {
+        packed = packed * 256 + blocks.of(State(*child)).0 as u64;
     }
-    long(own) * SYMBOL + (packed * 256 + digit_of(State(target[j]), digits))
+    table.symbol[j] as u64 * SYMBOL + (packed * 256 + blocks.of(State(table.target[j])).0 as u64)
 }
 
 // An entry for each transition that counts. Answers how many there are.
-fn gather<'a>(
-    direction: u32,
-    count: usize,
-    ranks: &'a [u8; 128],
-    symbol: &'a [u8; 4000],
-    children: &'a [u8; 16000],
-    target: &'a [u8; 4000],
-    code: &'a [u32; 4000],
-    blocks: BlockList,
-    names: NameList,
-    keys: &mut [u64; 16000],
-    codes: &mut [u32; 16000],
+fn gather(
+    direction: Direction,
+    table: &TableRecord,
+    blocks: &BlockList,
+    names: &NameList,
+    entries: &mut Entries,
 ) -> usize
-    requires { Long (columns ranks.now symbol.now children.now target.now code.now) × Rows ranks.now symbol.now count × (length keys.old ≡ 16000) × (length codes.old ≡ 16000) }
-    ensures { Gathered (gathered (block_of blocks.list) (name_of names.list) (side_of direction) (rows_from (columns ranks.now symbol.now children.now target.now code.now) 0 count)) count keys.new codes.new result }
+    requires { RowsIn table.now }
+    ensures { GatheredIn direction table.now (block_of blocks.now.list) (name_of names.now.list) entries.new result }
 {
     let named = names.named(blocks);
-    let digits = blocks.digits();
     let mut many = 0;
-    let mut j = 0;
-    while j < count {
-        if counts(direction, j, ranks, symbol, children, target, &named) {
-            keys[many] = key_of(j, ranks, symbol, children, target, &digits);
-            codes[many] = code[j];
+    for j in 0..table.count {
+        if counts(direction, table, j, &named) {
+            entries.keys[many] = key_of(table, j, blocks);
+            entries.codes[many] = table.code[j];
             many += 1;
         }
-        j += 1;
     }
     many
 }
 
-// The last `rank` numbers of eight bits, as children from `from` on.
-fn unpack_children(packed: u64, from: usize, rank: usize, children: &mut [u8; 16000])
-    requires { (from + rank ≤ 16000) × (length children.old ≡ 16000) }
-    ensures { DigitsPut packed from rank children.old children.new }
+// The last numbers of eight bits, as children.
+fn unpack_children(packed: u64, children: &mut [u8])
+    ensures { children.new ≡ digits (length children.old) packed }
 {
     let mut rest = packed;
-    let mut k = rank;
-    while 0 < k {
-        k -= 1;
-        children[from + k] = (rest % 256) as u8;
-        rest = rest / 256;
+    for k in (0..children.len()).rev() {
+        children[k] = (rest % 256) as u8;
+        rest /= 256;
     }
 }
 
 // An entry as transition i.
-fn unpack(
-    i: usize,
-    key: u64,
-    weight: u32,
-    ranks: &[u8; 128],
-    symbol: &mut [u8; 4000],
-    children: &mut [u8; 16000],
-    target: &mut [u8; 4000],
-    code: &mut [u32; 4000],
-)
-    requires { (i < 4000) × KeyKnown ranks.now key × Long (columns ranks.now symbol.old children.old target.old code.old) }
-    ensures { RowPut i (transition_of ranks.now (record { key = key; code = weight }))
-        (columns ranks.now symbol.old children.old target.old code.old)
-        (columns ranks.now symbol.new children.new target.new code.new) }
+fn unpack(i: usize, key: u64, weight: u32, next: &mut TableRecord)
+    requires inside { i < 4000 }
+    requires known { KeyKnown next.old.ranks key }
+    ensures put { RowPutIn i (entry_in next.old key weight) next.old next.new }
+    ensures head { HeadKept next.old next.new }
 {
-    let own = key / SYMBOL;
-    symbol[i] = own as u8;
-    let rank = wide(ranks[own as usize]);
-    unpack_children(key / 256, i * 4, rank, children);
-    target[i] = (key % 256) as u8;
-    code[i] = weight;
+    let symbol = key / SYMBOL;
+    let rank = next.ranks[symbol as usize] as usize;
+    next.symbol[i] = symbol as u8;
+    unpack_children(key / 256, &mut next.children[4 * i..4 * i + rank]);
+    next.target[i] = (key % 256) as u8;
+    next.code[i] = weight;
 }
 
-// The entries as the transitions of a table.
-fn unpack_all(
-    count: usize,
-    ranks: &[u8; 128],
-    keys: &[u64; 16000],
-    codes: &[u32; 16000],
-    symbol: &mut [u8; 4000],
-    children: &mut [u8; 16000],
-    target: &mut [u8; 4000],
-    code: &mut [u32; 4000],
-)
-    requires { (count ≤ 4000) × (length keys.now ≡ 16000) × (length codes.now ≡ 16000) × ((i : ℕ) → i < count → KeyKnown ranks.now (get_or keys.now i 0)) × Long (columns ranks.now symbol.old children.old target.old code.old) }
-    ensures { Unpacked count (entries keys.now codes.now 0 count)
-        (columns ranks.now symbol.new children.new target.new code.new) }
+// The first entries as the transitions of the table.
+fn unpack_all(entries: &Entries, next: &mut TableRecord)
+    requires few { next.old.count ≤ 4000 }
+    requires known { (i : ℕ) → i < next.old.count → KeyKnown next.old.ranks (get_or entries.now.keys i 0) }
+    ensures unpacked { UnpackedIn next.new (first_entries entries.now next.old.count) }
+    ensures head { HeadKept next.old next.new }
 {
-    let mut i = 0;
-    while i < count {
-        unpack(i, keys[i], codes[i], ranks, symbol, children, target, code);
-        i += 1;
+    for i in 0..next.count {
+        unpack(i, entries.keys[i], entries.codes[i], next);
     }
 }

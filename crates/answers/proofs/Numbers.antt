@@ -1,6 +1,7 @@
 -- Each code of document 01's table "Numbers that come back" is from 1 to 99.
-use Rattle.std.specs.Prelude.{◌<◌, Bool, true, false, ◌&&◌, T, ltb}
+use Rattle.std.specs.Prelude.{◌<◌, Bool, ◌&&◌, T, ltb}
 use Rattle.std.proofs.Common.{ltb→lt}
+use Rattle.std.proofs.Math.Facts.{and_yes}
 use Rattle.answers.specs.declared.Refusal.{Refusal}
 use Rattle.answers.specs.Numbers.{is_code, line_of, code_of}
 
@@ -22,9 +23,7 @@ in_range Refusal.NoDirection = tt
 in_range (Refusal.LargeNumber at) = tt
 
 both : (a b : Bool) → T (a && b) → T a × T b
-both true true h = (tt, tt)
-both false b h = elim h [ ]
-both true false h = elim h [ ]
+both a b h = and_yes a b h
 
 -- no refusal has the code 0
 pub code_some : (refusal : Refusal) → 0 < code_of refusal

@@ -1,9 +1,7 @@
 -- Document 01's table "Numbers that come back", with what document 02 adds to it: the code and the figure of each refusal, and of each
 -- answer.
-use Rattle.std.specs.Prelude.{ℕ, ◌+◌, ◌*◌, ◌^◌, Bool, ◌&&◌, ltb}
+use Rattle.std.specs.Prelude.{ℕ, ◌+◌, ◌*◌, ◌^◌, Bool, ◌&&◌, ltb, Result, Ok, Err}
 use Rattle.answers.specs.declared.Refusal.{Refusal}
-use Rattle.answers.specs.declared.Answer.{Answer}
-use Rattle.answers.specs.declared.Answer.TheVariants.{Done, Refused}
 
 -- a code is from 1 to 99: 0 is "done", and a second table's codes come back with 100 added
 abbrev pub is_code : ℕ → Bool
@@ -40,14 +38,14 @@ code_of refusal = (line_of refusal).code
 abbrev pub refusal_figure : Refusal → ℕ
 refusal_figure refusal = (line_of refusal).figure
 
-abbrev pub answer_code : Answer → ℕ
-answer_code (Done figure) = 0
-answer_code (Refused refusal) = code_of refusal
+abbrev pub answer_code : Result ℕ Refusal → ℕ
+answer_code (Ok figure) = 0
+answer_code (Err refusal) = code_of refusal
 
-abbrev pub answer_figure : Answer → ℕ
-answer_figure (Done figure) = figure
-answer_figure (Refused refusal) = refusal_figure refusal
+abbrev pub answer_figure : Result ℕ Refusal → ℕ
+answer_figure (Ok figure) = figure
+answer_figure (Err refusal) = refusal_figure refusal
 
 -- code times 2^32 plus figure
-abbrev pub packed : Answer → ℕ
+abbrev pub packed : Result ℕ Refusal → ℕ
 packed answer = answer_code answer * 2 ^ 32 + answer_figure answer

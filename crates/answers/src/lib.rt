@@ -5,8 +5,10 @@
 ghost use Rattle.std.specs.Prelude.{◌≡◌, ◌+◌, ◌*◌, ◌<◌, ◌^◌};
 ghost use Rattle.answers.specs.Numbers.{code_of, refusal_figure, answer_figure, packed};
 
+use std::fmt;
+
 // Why an input is refused, one case for each line of 01's table and each number of 02, with its figure.
-#[derive(Clone, Copy)]
+#[derive(Clone, Copy, Debug, PartialEq, Eq)]
 pub enum Refusal {
     // the table ends where a byte of a number is due
     TableEnds(usize),
@@ -39,53 +41,58 @@ pub enum Refusal {
 }
 
 // The answer of a call that gives back a figure alone.
-#[derive(Clone, Copy)]
-pub enum Answer {
-    Done(usize),
-    Refused(Refusal),
-}
+pub type Answer = Result<usize, Refusal>;
 
-// The number for a refusal.
-pub fn code(refusal: Refusal) -> u32
-    ensures { result ≡ code_of refusal }
-{
-    match refusal {
-        Refusal::TableEnds(_) => 1,
-        Refusal::PaddedNumber(_) => 2,
-        Refusal::OutOfRange(_) => 3,
-        Refusal::NotInTable(_) => 4,
-        Refusal::ZeroCode(_) => 5,
-        Refusal::NotAbove(_) => 6,
-        Refusal::TableGoesOn(_) => 7,
-        Refusal::TreeEnds(_) => 8,
-        Refusal::UnknownSymbol(_) => 9,
-        Refusal::TreeGoesOn(_) => 10,
-        Refusal::TreeTooLong => 11,
-        Refusal::RoomTooShort(_) => 12,
-        Refusal::NoDirection => 13,
-        Refusal::LargeNumber(_) => 19,
+impl Refusal {
+    // The number for a refusal.
+    pub fn code(self) -> u32
+        ensures { result ≡ code_of self }
+    {
+        match self {
+            Refusal::TableEnds(_) => 1,
+            Refusal::PaddedNumber(_) => 2,
+            Refusal::OutOfRange(_) => 3,
+            Refusal::NotInTable(_) => 4,
+            Refusal::ZeroCode(_) => 5,
+            Refusal::NotAbove(_) => 6,
+            Refusal::TableGoesOn(_) => 7,
+            Refusal::TreeEnds(_) => 8,
+            Refusal::UnknownSymbol(_) => 9,
+            Refusal::TreeGoesOn(_) => 10,
+            Refusal::TreeTooLong => 11,
+            Refusal::RoomTooShort(_) => 12,
+            Refusal::NoDirection => 13,
+            Refusal::LargeNumber(_) => 19,
+        }
+    }
+
+    // The figure that goes with it.
+    pub fn figure(self) -> usize
+        ensures { result ≡ refusal_figure self }
+    {
+        match self {
+            Refusal::TableEnds(at)
+            | Refusal::PaddedNumber(at)
+            | Refusal::OutOfRange(at)
+            | Refusal::NotInTable(at)
+            | Refusal::ZeroCode(at)
+            | Refusal::NotAbove(at)
+            | Refusal::TableGoesOn(at)
+            | Refusal::TreeEnds(at)
+            | Refusal::UnknownSymbol(at)
+            | Refusal::TreeGoesOn(at)
+            | Refusal::LargeNumber(at) => at,
+            Refusal::TreeTooLong => 4096,
+            Refusal::RoomTooShort(needed) => needed,
+            Refusal::NoDirection => 0,
+        }
     }
 }
 
-// The figure that goes with it.
-pub fn figure(refusal: Refusal) -> usize
-    ensures { result ≡ refusal_figure refusal }
-{
-    match refusal {
-        Refusal::TableEnds(at) => at,
-        Refusal::PaddedNumber(at) => at,
-        Refusal::OutOfRange(at) => at,
-        Refusal::NotInTable(at) => at,
-        Refusal::ZeroCode(at) => at,
-        Refusal::NotAbove(at) => at,
-        Refusal::TableGoesOn(at) => at,
-        Refusal::TreeEnds(at) => at,
-        Refusal::UnknownSymbol(at) => at,
-        Refusal::TreeGoesOn(at) => at,
-        Refusal::TreeTooLong => 4096,
-        Refusal::RoomTooShort(needed) => needed,
-        Refusal::NoDirection => 0,
-        Refusal::LargeNumber(at) => at,
+// As the program `inspect` prints it.
+impl fmt::Display for Refusal {
+    fn fmt<W: fmt::Write>(&self, f: &mut fmt::Formatter<W>) -> fmt::Result {
+        write!(f, "{} at {}", self.code(), self.figure())
     }
 }
 
@@ -95,7 +102,7 @@ pub fn pack(answer: Answer) -> u64
     ensures { result ≡ packed answer }
 {
     match answer {
-        Answer::Done(figure) => figure as u64,
-        Answer::Refused(refusal) => (code(refusal) as u64) * 4294967296 + (figure(refusal) as u64),
+        Ok(figure) => figure as u64,
+        Err(refusal) => (refusal.code() as u64) * 4294967296 + (refusal.figure() as u64),
     }
 }

@@ -1,4 +1,3 @@
-pub mod Negation
 pub mod Codes
 pub mod Sums
 pub mod Products

@@ -1,19 +1,20 @@
 -- What the machine's sums of codes and of sheet numbers stand for, in each arithmetic.
-use Rattle.std.proofs.Common.{◌≡◌, ℕ, zero, suc, ◌+◌, ◌%◌, ◌^◌, ◌<◌, true, false, T, ◌≢◌, ℤ, pos, nat_abs, sym, refl, ap, ◌∙◌, arith, w32, w64, Fits, SFits, to_z, of_z}
-use lib.Signed.{le_z, non_neg}
+use Rattle.std.proofs.Common.{◌≡◌, ℕ, ◌+◌, ◌%◌, ◌^◌, ◌<◌, true, false, ℤ, pos, nat_abs, sym, refl, ap, ◌∙◌, arith, w64, SFits, to_z, of_z}
+use Rattle.std.proofs.Common.{Option, None, Some, Bool, cond, ap₂, not, int_lt}
+use Rattle.std.specs.Int.{int_max}
+use Rattle.std.proofs.lemmas.Int.{ints}
+use Rattle.std.specs.Option.{option_partial_cmp}
+use Rattle.std.specs.Ordering.{partial_le, as_partial_cmp, int_cmp, is_le}
+use lib.Signed.{le_z}
+use Rattle.theory.specs.MaxPlus.{greater, number}
 use mir.ValLaws.{to_z_pos, to_z-of_z}
 use Rattle.theory.specs.Arithmetic.{arithmetic, meaning, code_of, code_of-meaning}
-use Rattle.theory.proofs.Bound.{within_meaning}
-use Rattle.arith.specs.Numbers.{number_of, weight_of, Stands, InSheet}
-use Rattle.arith.specs.Standing.{number_of_weight, weight_in_sheet, stands_small, greater_right, greater_left, within_in_sheet}
+use Rattle.arith.specs.Numbers.{value_in, number_of, weight_of, Stands}
+use Rattle.arith.specs.Standing.{number_of_weight, weight_in_sheet, stands_small, greater_right, greater_left}
 
 -- a sheet number of arithmetic 0 as the machine narrows it
-module _ (z : ℤ) (fits : SFits w64 z) (stands : Stands 0 z) where
-  pub narrows : T (non_neg (to_z w64 (of_z w64 z))) × Fits w32 (nat_abs (to_z w64 (of_z w64 z)))
-  narrows = let small = stands_small z stands in rw (to_z-of_z w64 z fits) (small.0, record { fits = small.1 })
-
-  pub narrowed : nat_abs (to_z w64 (of_z w64 z)) ≡ (weight_of 0 z).0
-  narrowed = rw (to_z-of_z w64 z fits) (let small = stands_small z stands in omega arith)
+pub narrowed : (z : ℤ) → SFits w64 z → Stands 0 z → nat_abs (to_z w64 (of_z w64 z)) ≡ (weight_of 0 z).0
+narrowed z fits stands = rw (to_z-of_z w64 z fits) (let small = stands_small z stands in omega arith)
 
 pub sum_modular : (a b : ℤ) → SFits w64 a → SFits w64 b → Stands 0 a → Stands 0 b → (r : ℕ)
     → r ≡ (nat_abs (to_z w64 (of_z w64 a)) + nat_abs (to_z w64 (of_z w64 b))) % 2 ^ 32
@@ -23,39 +24,31 @@ sum_modular a b fa fb sa sb r e =
     to_z_pos w64 r (omega arith) ∙ ap pos same
 
 -- the greater of two numbers stands for the greater of their weights
-module _ (a b : ℤ) (fa : SFits w64 a) (fb : SFits w64 b) where
-  pub sum_right : (n : ℕ) → n ≢ 0 → le_z (to_z w64 (of_z w64 a)) (to_z w64 (of_z w64 b)) ≡ true
-      → to_z w64 (of_z w64 b) ≡ number_of n ((arithmetic n).plus (weight_of n a) (weight_of n b))
-  sum_right zero some e = absurd (some refl)
-  sum_right (suc n) some e =
-      let less : le_z (number_of 1 (weight_of 1 a)) (number_of 1 (weight_of 1 b)) ≡ true =
-      rw (number_of_weight n a, number_of_weight n b) (rw (to_z-of_z w64 a fa, to_z-of_z w64 b fb) at e) in
-      rw (to_z-of_z w64 b fb, greater_right n (weight_of 1 a) (weight_of 1 b) (weight_in_sheet n a fa.sfits) less) (sym (number_of_weight n b))
+pub sum_greater : (a b : ℤ) → SFits w64 a → SFits w64 b → int_max a b ≡ number_of 1 (greater (weight_of 1 a) (weight_of 1 b))
+sum_greater a b fa fb = let same : int_lt b a ≡ not (le_z a b) = grind (arith, ints) in rw same (go (le_z a b) refl)
+  where
+    in_order : (c : Bool) → le_z a b ≡ c → le_z (number_of 1 (weight_of 1 a)) (number_of 1 (weight_of 1 b)) ≡ c
+    in_order c e = rw (number_of_weight 0 a, number_of_weight 0 b) e
 
-  pub sum_left : (n : ℕ) → n ≢ 0 → le_z (to_z w64 (of_z w64 a)) (to_z w64 (of_z w64 b)) ≡ false
-      → to_z w64 (of_z w64 a) ≡ number_of n ((arithmetic n).plus (weight_of n a) (weight_of n b))
-  sum_left zero some e = absurd (some refl)
-  sum_left (suc n) some e =
-      let less : le_z (number_of 1 (weight_of 1 a)) (number_of 1 (weight_of 1 b)) ≡ false =
-      rw (number_of_weight n a, number_of_weight n b) (rw (to_z-of_z w64 a fa, to_z-of_z w64 b fb) at e) in
-      rw (to_z-of_z w64 a fa, greater_left n (weight_of 1 a) (weight_of 1 b) (weight_in_sheet n b fb.sfits) less) (sym (number_of_weight n a))
+    go : (c : Bool) → le_z a b ≡ c → cond (not c) a b ≡ number_of 1 (greater (weight_of 1 a) (weight_of 1 b))
+    go true e = rw (greater_right 0 (weight_of 1 a) (weight_of 1 b) (weight_in_sheet 0 a fa.sfits) (in_order true e)) (sym (number_of_weight 0 b))
+    go false e = rw (greater_left 0 (weight_of 1 a) (weight_of 1 b) (weight_in_sheet 0 b fb.sfits) (in_order false e)) (sym (number_of_weight 0 a))
 
-meaning_in_sheet : (c : ℕ) → c < 2 ^ 32 → InSheet 1 (meaning 1 c)
-meaning_in_sheet c l = within_in_sheet 0 1 (omega arith) (meaning 1 c) (within_meaning c l)
+-- nothing is below every number, as an option has it
+greater_option : (x y : Option ℤ) → greater (value_in x) (value_in y) ≡ value_in (cond (partial_le (option_partial_cmp (as_partial_cmp int_cmp)) x y) y x)
+greater_option None None = refl
+greater_option None (Some n) = refl
+greater_option (Some m) None = refl
+greater_option (Some m) (Some n) = let same : is_le (int_cmp m n) ≡ le_z m n = grind (arith, ints) in rw same (go (le_z m n))
+  where
+    go : (c : Bool) → number (cond c n m) ≡ value_in (cond c (Some n) (Some m))
+    go true = refl
+    go false = refl
 
--- the code of the greater meaning, where x and y stand for the two meanings
-module _ (a b : ℕ) (fa : a < 2 ^ 32) (fb : b < 2 ^ 32) (x y : ℤ) (fx : SFits w64 x) (fy : SFits w64 y) (ex : x ≡ number_of 1 (meaning 1 a)) (ey : y ≡ number_of 1 (meaning 1 b)) where
-  pub code_right : (n : ℕ) → n ≢ 0 → le_z (to_z w64 (of_z w64 x)) (to_z w64 (of_z w64 y)) ≡ true → b ≡ code_of n ((arithmetic n).plus (meaning n a) (meaning n b))
-  code_right zero some e = absurd (some refl)
-  code_right (suc n) some e =
-      let more = rw (to_z-of_z w64 x fx, to_z-of_z w64 y fy, ex, ey) at e in
-      sym (code_of-meaning 1 b fb) ∙ ap (code_of 1) (sym (greater_right n (meaning 1 a) (meaning 1 b) (meaning_in_sheet a fa) more))
+-- the code of the greater meaning
+module _ (a b : ℕ) (x y : Option ℤ) (ex : value_in x ≡ meaning 1 a) (ey : value_in y ≡ meaning 1 b) where
+  pub code_right : b < 2 ^ 32 → true ≡ partial_le (option_partial_cmp (as_partial_cmp int_cmp)) x y → b ≡ code_of 1 (greater (meaning 1 a) (meaning 1 b))
+  code_right l e = sym (code_of-meaning 1 b l) ∙ ap (code_of 1) (sym ey ∙ sym (rw (← e) at (greater_option x y)) ∙ ap₂ greater ex ey)
 
-  pub code_left : (n : ℕ) → n ≢ 0 → le_z (to_z w64 (of_z w64 x)) (to_z w64 (of_z w64 y)) ≡ false → a ≡ code_of n ((arithmetic n).plus (meaning n a) (meaning n b))
-  code_left zero some e = absurd (some refl)
-  code_left (suc n) some e =
-      let less = rw (to_z-of_z w64 x fx, to_z-of_z w64 y fy, ex, ey) at e in
-      sym (code_of-meaning 1 a fa) ∙ ap (code_of 1) (sym (greater_left n (meaning 1 a) (meaning 1 b) (meaning_in_sheet b fb) less))
-
-pub code_modular : (a b : ℕ) (r : ℕ) → r ≡ (a + b) % 2 ^ 32 → r ≡ code_of 0 ((arithmetic 0).plus (meaning 0 a) (meaning 0 b))
-code_modular a b r e = omega arith
+  pub code_left : a < 2 ^ 32 → false ≡ partial_le (option_partial_cmp (as_partial_cmp int_cmp)) x y → a ≡ code_of 1 (greater (meaning 1 a) (meaning 1 b))
+  code_left l e = sym (code_of-meaning 1 a l) ∙ ap (code_of 1) (sym ex ∙ sym (rw (← e) at (greater_option x y)) ∙ ap₂ greater ex ey)

@@ -1,15 +1,13 @@
 -- The numbers of a sheet: which number stands for a weight, and which weight a number stands for.
-use Rattle.std.specs.Prelude.{◌≡◌, ℕ, zero, suc, ◌^◌, ◌<◌, Bool, false, cond, ℤ, pos, negsuc, ◌==◌, unsigned_abs}
+use Rattle.std.specs.Prelude.{◌≡◌, Option, None, Some, ℕ, zero, suc, ◌^◌, ◌<◌, Bool, false, cond, ℤ, pos, negsuc, ◌==◌, unsigned_abs}
 use Rattle.theory.specs.Modular.{residue}
 use Rattle.theory.specs.MaxPlus.{Value, nothing, number}
 use Rattle.theory.specs.Arithmetic.{Weight, value_of, sheet_number}
-use Rattle.arith.specs.declared.Meaning.{Meaning}
-use Rattle.arith.specs.declared.Meaning.TheVariants.{Nothing, Number}
 
 -- a meaning of arithmetic 1 as the theory has it
-abbrev pub value_in : Meaning → Value
-value_in Nothing = nothing
-value_in (Number z) = number z
+abbrev pub value_in : Option ℤ → Value
+value_in None = nothing
+value_in (Some z) = number z
 
 -- the number that stands for a weight in a sheet
 abbrev pub number_of : (a : ℕ) → Weight a → ℤ

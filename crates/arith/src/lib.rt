@@ -3,65 +3,66 @@
 #![tactic(auto)]
 
 ghost use Rattle.std.specs.Prelude.{◌≡◌, ◌*◌, ◌%◌, ◌^◌};
-ghost use Rattle.theory.specs.Arithmetic.{arithmetic as semiring, meaning, code_of};
+ghost use Rattle.theory.specs.Arithmetic.{arithmetic as semiring, arithmetic_number, meaning, code_of};
 ghost use Rattle.arith.specs.Numbers.{value_in, number_of, weight_of, Stands, InSheet};
 
-// What stands for nothing in a sheet: it is below every number.
-pub const NOTHING: i64 = -9223372036854775808;
+use theory::Arithmetic;
+
+// What stands for nothing in a sheet, which is C's memory: it is below every number.
+pub const NOTHING: i64 = i64::MIN;
 
 // The code of the sum of two meanings.
-pub fn sum_of_codes(arithmetic: u32, a: u32, b: u32) -> u32
-    ensures { result ≡ code_of arithmetic ((semiring arithmetic).plus (meaning arithmetic a) (meaning arithmetic b)) }
+pub fn sum_of_codes(arithmetic: Arithmetic, a: u32, b: u32) -> u32
+    ensures { result ≡ code_of (arithmetic_number arithmetic) ((semiring (arithmetic_number arithmetic)).plus (meaning (arithmetic_number arithmetic) a) (meaning (arithmetic_number arithmetic) b)) }
 {
-    if arithmetic == 0 {
-        return std::num::wrapping_add_u32(a, b);
-    }
-    if number_of_code(1, a) <= number_of_code(1, b) {
-        b
-    } else {
-        a
+    match arithmetic {
+        Arithmetic::Modular => a.wrapping_add(b),
+        Arithmetic::MaxPlus => { if meaning_of(a) <= meaning_of(b) { b } else { a } }
     }
 }
 
 // The number that stands for a code's meaning in a sheet.
-pub fn number_of_code(arithmetic: u32, code: u32) -> i64
-    ensures { result ≡ number_of arithmetic (meaning arithmetic code) }
+pub fn number_of_code(arithmetic: Arithmetic, code: u32) -> i64
+    ensures { result ≡ number_of (arithmetic_number arithmetic) (meaning (arithmetic_number arithmetic) code) }
 {
-    if arithmetic == 0 {
-        return code as i64;
-    }
-    match meaning_of(code) {
-        Meaning::Nothing => NOTHING,
-        Meaning::Number(z) => z as i64,
+    match arithmetic {
+        Arithmetic::Modular => code as i64,
+        Arithmetic::MaxPlus => match meaning_of(code) {
+            None => NOTHING,
+            Some(z) => z as i64,
+        },
     }
 }
 
 // The sum of two numbers of a sheet.
-pub fn sum(arithmetic: u32, a: i64, b: i64) -> i64
-    requires { Stands arithmetic a × Stands arithmetic b }
-    ensures { result ≡ number_of arithmetic ((semiring arithmetic).plus (weight_of arithmetic a) (weight_of arithmetic b)) }
+pub fn sum(arithmetic: Arithmetic, a: i64, b: i64) -> i64
+    requires a_stands { Stands (arithmetic_number arithmetic) a }
+    requires b_stands { Stands (arithmetic_number arithmetic) b }
+    ensures { result ≡ number_of (arithmetic_number arithmetic) ((semiring (arithmetic_number arithmetic)).plus (weight_of (arithmetic_number arithmetic) a) (weight_of (arithmetic_number arithmetic) b)) }
 {
-    if arithmetic == 0 {
-        return std::num::wrapping_add_u32(a as u32, b as u32) as i64;
+    match arithmetic {
+        Arithmetic::Modular => (a as u32).wrapping_add(b as u32) as i64,
+        Arithmetic::MaxPlus => a.max(b),
     }
-    if a <= b { b } else { a }
 }
 
 // The product of two numbers of a sheet, where it has a number there.
-pub fn product(arithmetic: u32, a: i64, b: i64) -> i64
-    requires { Stands arithmetic a × Stands arithmetic b × InSheet arithmetic ((semiring arithmetic).times (weight_of arithmetic a) (weight_of arithmetic b)) }
-    ensures { result ≡ number_of arithmetic ((semiring arithmetic).times (weight_of arithmetic a) (weight_of arithmetic b)) }
+pub fn product(arithmetic: Arithmetic, a: i64, b: i64) -> i64
+    requires a_stands { Stands (arithmetic_number arithmetic) a }
+    requires b_stands { Stands (arithmetic_number arithmetic) b }
+    requires in_sheet { InSheet (arithmetic_number arithmetic) ((semiring (arithmetic_number arithmetic)).times (weight_of (arithmetic_number arithmetic) a) (weight_of (arithmetic_number arithmetic) b)) }
+    ensures { result ≡ number_of (arithmetic_number arithmetic) ((semiring (arithmetic_number arithmetic)).times (weight_of (arithmetic_number arithmetic) a) (weight_of (arithmetic_number arithmetic) b)) }
 {
-    if arithmetic == 0 {
-        return wrapping_product(a as u32, b as u32) as i64;
+    match arithmetic {
+        Arithmetic::Modular => wrapping_product(a as u32, b as u32) as i64,
+        Arithmetic::MaxPlus => {
+            if a == NOTHING || b == NOTHING {
+                NOTHING
+            } else {
+                a + b
+            }
+        }
     }
-    if a == NOTHING {
-        return NOTHING;
-    }
-    if b == NOTHING {
-        return NOTHING;
-    }
-    a + b
 }
 
 // The product modulo 2^32.
@@ -71,23 +72,17 @@ fn wrapping_product(a: u32, b: u32) -> u32
     ((a as u64) * (b as u64) % 4294967296) as u32
 }
 
-// What a code means in arithmetic 1.
-#[derive(Clone, Copy)]
-enum Meaning {
-    Nothing,
-    Number(i32),
-}
-
-fn meaning_of(code: u32) -> Meaning
+// What a code means in arithmetic 1: nothing, or a number. Nothing is below every number.
+fn meaning_of(code: u32) -> Option<i32>
     ensures { value_in result ≡ meaning 1 code }
 {
     if code == 0 {
-        return Meaning::Nothing;
+        return None;
     }
     let z = code - 1;
     if z % 2 == 0 {
-        Meaning::Number((z / 2) as i32)
+        Some((z / 2) as i32)
     } else {
-        Meaning::Number(-(((z + 1) / 2) as i32))
+        Some(-(((z + 1) / 2) as i32))
     }
 }

@@ -13,93 +13,56 @@ use answers::{Answer, Refusal};
 pub fn check(table: &[u8]) -> Answer
     ensures { Checks table.now result }
 {
-    let reading = tables::read(table);
-    let answer = reading.answer;
-    answer
+    Ok(tables::read(table)?.states)
 }
 
 // A read table written again, into the room: done with its length.
 pub fn rewrite(table: &[u8], room: &mut [u8]) -> Answer
     ensures { Rewrites table.now room.old result room.new }
 {
-    let reading = tables::read(table);
-    let answer = reading.answer;
-    match answer {
-        Answer::Done(_) => {
-            // an accepted table's one written form is the table itself
-            let needed = table.len();
-            if room.len() < needed {
-                return Answer::Refused(Refusal::RoomTooShort(needed));
-            }
-            let record = reading.table;
-            Answer::Done(writer::write(record, room))
-        }
-        Answer::Refused(refusal) => Answer::Refused(refusal),
+    let record = tables::read(table)?;
+    // an accepted table's one written form is the table itself
+    let needed = table.len();
+    if room.len() < needed {
+        return Err(Refusal::RoomTooShort(needed));
     }
+    Ok(writer::write(&record, room))
 }
 
-// What counts for a pick.
-#[derive(Clone, Copy)]
+// What counts for a pick: first the states, then the transitions.
+#[derive(Clone, Copy, Debug, PartialEq, Eq, PartialOrd, Ord)]
 pub struct Size {
     pub states: usize,
     pub transitions: usize,
 }
 
-#[derive(Clone, Copy)]
-pub enum SizeRead {
-    Taken(Size),
-    Refused(Refusal),
-}
-
-fn size_of(table: &[u8]) -> SizeRead
+fn size_of(table: &[u8]) -> Result<Size, Refusal>
     ensures { result ≡ size_of (table_read table.now) }
 {
-    let reading = tables::read(table);
-    let answer = reading.answer;
-    match answer {
-        Answer::Done(states) => SizeRead::Taken(Size {
-            states,
-            transitions: reading.table.count,
-        }),
-        Answer::Refused(refusal) => SizeRead::Refused(refusal),
-    }
+    let record = tables::read(table)?;
+    Ok(Size {
+        states: record.states,
+        transitions: record.count,
+    })
 }
 
-// Which of two tables is picked, or why none is.
-#[derive(Clone, Copy)]
-pub enum Choice {
+// One of the two tables of a pick.
+#[derive(Clone, Copy, Debug, PartialEq, Eq)]
+pub enum Which {
     First,
     Second,
-    RefusedFirst(Refusal),
-    RefusedSecond(Refusal),
 }
 
-fn compare(first: &[u8], second: &[u8]) -> Choice
+// Which of two tables is picked, or which is refused and why: the smaller is picked, on a tie the first.
+fn compare(first: &[u8], second: &[u8]) -> Result<Which, (Which, Refusal)>
     ensures { result ≡ picked first.now second.now }
 {
-    match size_of(first) {
-        SizeRead::Taken(a) => match size_of(second) {
-            SizeRead::Taken(b) => smaller(a, b),
-            SizeRead::Refused(refusal) => Choice::RefusedSecond(refusal),
-        },
-        SizeRead::Refused(refusal) => Choice::RefusedFirst(refusal),
+    let a = size_of(first).map_err(|refusal| (Which::First, refusal))?;
+    let b = size_of(second).map_err(|refusal| (Which::Second, refusal))?;
+    if b < a {
+        return Ok(Which::Second);
     }
-}
-
-// Fewer states, then fewer transitions, then the first.
-fn smaller(first: Size, second: Size) -> Choice
-    ensures { result ≡ Rattle.calls.specs.Picking.chosen (Rattle.calls.specs.Picking.smaller first second) }
-{
-    if second.states == first.states {
-        if second.transitions < first.transitions {
-            return Choice::Second;
-        }
-        return Choice::First;
-    }
-    if second.states < first.states {
-        return Choice::Second;
-    }
-    Choice::First
+    Ok(Which::First)
 }
 
 // The picked table, handed back as that same piece of memory; an empty piece at the start of the first on refusal.
@@ -107,15 +70,14 @@ pub fn pick<'a>(first: &'a [u8], second: &'a [u8]) -> &'a [u8]
     ensures { piece_of result ≡ picked_piece (picked first.now second.now) first.entry second.entry }
 {
     match compare(first, second) {
-        Choice::First => first,
-        Choice::Second => second,
-        Choice::RefusedFirst(_) => &first[..0],
-        Choice::RefusedSecond(_) => &first[..0],
+        Ok(Which::First) => first,
+        Ok(Which::Second) => second,
+        Err(_) => &first[..0],
     }
 }
 
 // The code and the figure of a pick.
-#[derive(Clone, Copy)]
+#[derive(Clone, Copy, Debug, PartialEq, Eq)]
 pub struct PickAnswer {
     pub code: u32,
     pub figure: usize,
@@ -125,21 +87,21 @@ pub fn pick_answer(first: &[u8], second: &[u8]) -> PickAnswer
     ensures { PickAnswers first.now second.now result }
 {
     match compare(first, second) {
-        Choice::First => PickAnswer {
+        Ok(Which::First) => PickAnswer {
             code: 0,
             figure: first.len(),
         },
-        Choice::Second => PickAnswer {
+        Ok(Which::Second) => PickAnswer {
             code: 0,
             figure: second.len(),
         },
-        Choice::RefusedFirst(refusal) => PickAnswer {
-            code: answers::code(refusal),
-            figure: answers::figure(refusal),
+        Err((Which::First, refusal)) => PickAnswer {
+            code: refusal.code(),
+            figure: refusal.figure(),
         },
-        Choice::RefusedSecond(refusal) => PickAnswer {
-            code: 100 + answers::code(refusal),
-            figure: answers::figure(refusal),
+        Err((Which::Second, refusal)) => PickAnswer {
+            code: 100 + refusal.code(),
+            figure: refusal.figure(),
         },
     }
 }

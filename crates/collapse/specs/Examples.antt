@@ -1,9 +1,8 @@
 -- Document 01's list P1 to P10 in one statement: what the promises allow for the bytes of its tables. It is drawn from the part about
 -- tables, theory/specs/Examples.antt.
-use Rattle.std.specs.Prelude.{ℕ, ◌≤◌, ◌≡◌, refl, ◌↔◌, List, [], ◌∷◌, ◌++◌, pos, neg_ℤ, length, drop}
+use Rattle.std.specs.Prelude.{ℕ, ◌≤◌, ◌≡◌, refl, ◌↔◌, List, [], ◌∷◌, ◌++◌, Result, Ok, pos, neg_ℤ, length, drop}
 use Rattle.std.proofs.Common.{◌∙◌, le-leb}
-use Rattle.answers.specs.declared.Answer.{Answer}
-use Rattle.answers.specs.declared.Answer.TheVariants.{Done}
+use Rattle.answers.specs.declared.Refusal.{Refusal}
 use Rattle.numbers.specs.Written.{groups}
 use Rattle.numbers.specs.Read.{number_at, more_from}
 use Rattle.model.specs.Table.{Table}
@@ -12,8 +11,10 @@ use Rattle.theory.specs.Arithmetic.{meaning}
 use Rattle.theory.specs.Weight.{value}
 use Rattle.theory.specs.Sheet.{sheet}
 use Rattle.theory.specs.Blocks.{block_of, block_count}
-use Rattle.theory.specs.Direction.{Direction, backward, forward, CoarsestBlocks}
-use Rattle.theory.proofs.Direction.{coarsest_blocks_unique}
+use Rattle.theory.specs.declared.Direction.{Direction}
+use Rattle.theory.specs.declared.Direction.TheVariants.{Backward as backward, Forward as forward}
+use Rattle.theory.specs.Direction.{CoarsestBlocks}
+use Rattle.theory.proofs.Directions.{coarsest_blocks_unique}
 use Rattle.theory.specs.Collapse.{CollapsedByCoarsest}
 use Rattle.theory.proofs.Collapse.{collapsed_by_coarsest_unique}
 use Rattle.theory.specs.Examples.{table_a, table_a_collapsed, table_b, table_c, table_d, table_e, table_f, g·a}
@@ -27,16 +28,16 @@ use Rattle.collapse.specs.declared.Counted.{Counted}
 -- The promise of blocks allows exactly this in any room that is long enough: done with their number, the blocks at the front of the
 -- room, and behind them the room as it was.
 pub record BlocksAre (d : ℕ) (table blocks : List ℕ) (count : ℕ) : Type 0 where
-  pub exactly : (before : List ℕ) → length blocks ≤ length before → (answer : Answer) (room : List ℕ)
-      → Blocks d table before answer room ↔ (answer ≡ Done count) × (room ≡ blocks ++ drop (length blocks) before)
+  pub exactly : (before : List ℕ) → length blocks ≤ length before → (answer : Result ℕ Refusal) (room : List ℕ)
+      → Blocks d table before answer room ↔ (answer ≡ Ok count) × (room ≡ blocks ++ drop (length blocks) before)
 
 abbrev pub counted : List ℕ → ℕ → ℕ → Counted
-counted bytes states transitions = record { answer = Done (length bytes); states = states; transitions = transitions }
+counted bytes states transitions = record { length = length bytes; states = states; transitions = transitions }
 
 -- The same of a collapse or a shrink: done with the length of these bytes, the two counts beside it, the bytes at the front of the room.
-pub record Writes (Promise : List ℕ → List ℕ → Counted → List ℕ → Type 0) (table bytes : List ℕ) (states transitions : ℕ) : Type 0 where
-  pub exactly : (before : List ℕ) → length bytes ≤ length before → (c : Counted) (room : List ℕ)
-      → Promise table before c room ↔ (c ≡ counted bytes states transitions) × (room ≡ bytes ++ drop (length bytes) before)
+pub record Writes (Promise : List ℕ → List ℕ → Result Counted Refusal → List ℕ → Type 0) (table bytes : List ℕ) (states transitions : ℕ) : Type 0 where
+  pub exactly : (before : List ℕ) → length bytes ≤ length before → (c : Result Counted Refusal) (room : List ℕ)
+      → Promise table before c room ↔ (c ≡ Ok (counted bytes states transitions)) × (room ≡ bytes ++ drop (length bytes) before)
 
 -- the bytes are those of a table of which this holds
 pub record OfTable (table : List ℕ) (P : Table → Type 0) : Type 0 where
@@ -96,23 +97,23 @@ pub record Examples : Type 0 where
   pub p10_small : (meaning 1 1 ≡ number (pos 0)) × (meaning 1 2 ≡ number (neg_ℤ (pos 1))) × (meaning 1 3 ≡ number (pos 1)) × (meaning 1 4 ≡ number (neg_ℤ (pos 2)))
   pub p10_ends : (meaning 1 4294967295 ≡ number (pos 2147483647)) × (meaning 1 4294967294 ≡ number (neg_ℤ (pos 2147483647)))
 
-pub blocks_exactly : (d : Direction) (X : Table) (blocks : List ℕ) → CoarsestBlocks d X blocks → (before : List ℕ) → length blocks ≤ length before → (answer : Answer) (room : List ℕ)
-    → BlocksPut d X before answer room ↔ (answer ≡ Done (block_count (block_of blocks) X.states)) × (room ≡ blocks ++ drop (length blocks) before)
+pub blocks_exactly : (d : Direction) (X : Table) (blocks : List ℕ) → CoarsestBlocks d X blocks → (before : List ℕ) → length blocks ≤ length before → (answer : Result ℕ Refusal) (room : List ℕ)
+    → BlocksPut d X before answer room ↔ (answer ≡ Ok (block_count (block_of blocks) X.states)) × (room ≡ blocks ++ drop (length blocks) before)
 blocks_exactly d X blocks coarsest before long answer room = (
   λ p. let same = coarsest_blocks_unique d X p.blocks blocks p.coarsest coarsest in (p.answer_is ∙ rw (same, le-leb), p.room_is ∙ rw (same, le-leb)),
   λ (e, f). record { blocks = blocks; coarsest = coarsest; answer_is = e ∙ rw le-leb; room_is = f ∙ rw le-leb },
 )
 
 -- R names Y alone
-pub table_exactly : (R : Table → Type 0) (Y : Table) → R Y → ((Z : Table) → R Z → Z ≡ Y) → (before : List ℕ) → length (bytes_of Y) ≤ length before → (c : Counted) (room : List ℕ)
-    → TablePut R before c room ↔ (c ≡ counted (bytes_of Y) Y.states (length Y.transitions)) × (room ≡ bytes_of Y ++ drop (length (bytes_of Y)) before)
+pub table_exactly : (R : Table → Type 0) (Y : Table) → R Y → ((Z : Table) → R Z → Z ≡ Y) → (before : List ℕ) → length (bytes_of Y) ≤ length before → (c : Result Counted Refusal) (room : List ℕ)
+    → TablePut R before c room ↔ (c ≡ Ok (counted (bytes_of Y) Y.states (length Y.transitions))) × (room ≡ bytes_of Y ++ drop (length (bytes_of Y)) before)
 table_exactly R Y named alone before long c room = (
   λ p. let same = alone p.table p.named in (p.answer_is ∙ rw (same, le-leb), p.room_is ∙ rw (same, le-leb)),
   λ (e, f). record { table = Y; named = named; answer_is = e ∙ rw le-leb; room_is = f ∙ rw le-leb },
 )
 
-collapse_exactly : (d : Direction) (X Y : Table) → CollapsedByCoarsest d X Y → (before : List ℕ) → length (bytes_of Y) ≤ length before → (c : Counted) (room : List ℕ)
-    → TablePut (CollapsedByCoarsest d X) before c room ↔ (c ≡ counted (bytes_of Y) Y.states (length Y.transitions)) × (room ≡ bytes_of Y ++ drop (length (bytes_of Y)) before)
+collapse_exactly : (d : Direction) (X Y : Table) → CollapsedByCoarsest d X Y → (before : List ℕ) → length (bytes_of Y) ≤ length before → (c : Result Counted Refusal) (room : List ℕ)
+    → TablePut (CollapsedByCoarsest d X) before c room ↔ (c ≡ Ok (counted (bytes_of Y) Y.states (length Y.transitions))) × (room ≡ bytes_of Y ++ drop (length (bytes_of Y)) before)
 collapse_exactly d X Y collapsed = table_exactly (CollapsedByCoarsest d X) Y collapsed (λ Z named. collapsed_by_coarsest_unique d X Z Y named collapsed)
 
 pub examples : Examples

@@ -4,4 +4,5 @@ pub mod Promises
 pub mod Readable
 pub mod Sequences
 pub mod Shrinking
+pub mod Steps
 pub mod Wrong

@@ -1,9 +1,8 @@
 -- Demand 3, from the bytes of the first table to the bytes of the last: no sequence of collapses in which none is refused changes the
 -- weight of any tree, however large; and the last collapse, made again at once with room for it, returns the same bytes.
-use Rattle.std.specs.Prelude.{ℕ, ◌<◌, ◌≤◌, ◌≡◌, refl, Bool, true, false, List, length, get_or, take, leb}
-use Rattle.std.proofs.Common.{sym, ap, ◌∙◌, subst, arith, le-leb}
+use Rattle.std.specs.Prelude.{ℕ, ◌<◌, ◌≤◌, ◌≡◌, refl, Bool, true, false, List, Result, Ok, Err, length, get_or, take, leb}
+use Rattle.std.proofs.Common.{sym, ap, ◌∙◌, subst, le-leb}
 use Rattle.std.proofs.Math.Seq.{take-append_seam}
-use Rattle.answers.specs.declared.Answer.TheVariants.{Done}
 use Rattle.answers.specs.declared.Refusal.{Refusal}
 use Rattle.answers.specs.declared.Refusal.TheVariants.{NoDirection}
 use Rattle.model.specs.Table.{Table, Proper}
@@ -20,16 +19,16 @@ use Rattle.format.specs.Read.{Found, found, refused, table_read}
 use Rattle.format.specs.Written.{bytes_of}
 use Rattle.roundtrip.specs.Tables.{table_sound, table_complete}
 use Rattle.calls.specs.Answers.{fits, filled}
-use Rattle.collapse.specs.Promises.{written, refused_by, TablePut, PutFrom, Collapses, ShrinksTo}
+use Rattle.collapse.specs.Promises.{answer_of, written, TablePut, PutFrom, Collapses, ShrinksTo}
 use Rattle.collapse.specs.declared.Counted.{Counted}
 
 -- a collapse in direction d of a table that is not refused: `to` is what it wrote into some lent room
 pub record Collapsing (d : ℕ) (from to : List ℕ) : Type 0 where
   pub room_before : List ℕ
   pub room_after : List ℕ
-  pub given : Counted
+  pub given : Result Counted Refusal
   pub collapses : Collapses d from room_before given room_after
-  pub done : given.answer ≡ Done (length to)
+  pub done : answer_of given ≡ Ok (length to)
   pub wrote : to ≡ take (length to) room_after
 
 -- any sequence of collapses, backward and forward, none of them refused
@@ -38,17 +37,17 @@ pub data Collapsings (from : List ℕ) : List ℕ → Type 0 where
   ◌behind◌ : {to next : List ℕ} {d : ℕ} → Collapsing d to next → Collapsings from to → Collapsings from next
 
 -- Whatever a collapse that is done leaves at the front of the room, as many bytes as its figure says, is what it wrote.
-pub done_collapsing : (d : ℕ) (from before : List ℕ) (n : ℕ) (given : Counted) (room : List ℕ) → Collapses d from before given room
-    → given.answer ≡ Done n → Collapsing d from (take n room)
+pub done_collapsing : (d : ℕ) (from before : List ℕ) (n : ℕ) (given : Result Counted Refusal) (room : List ℕ) → Collapses d from before given room
+    → answer_of given ≡ Ok n → Collapsing d from (take n room)
 done_collapsing d from before n given room collapses done = go (leb d 1) (table_read from) collapses
   where
-    never : (r : Refusal) → given ≡ refused_by r → ⊥
-    never r e = let f = ap (λ (g : Counted). g.answer) e in let z : ◌≡◌ {A = ℕ} 0 1 = cc (f, done) in omega arith
+    never : (r : Refusal) → given ≡ Err r → ⊥
+    never r e = cc
 
     front : (Y : Table) (b : Bool) → given ≡ written b Y → room ≡ filled b (bytes_of Y) before → length (take n room) ≡ n
-    front Y false e f = absurd (let g = ap (λ (g : Counted). g.answer) e in let z : ◌≡◌ {A = ℕ} 0 1 = cc (g, done) in omega arith)
+    front Y false e f = absurd cc
     front Y true e f =
-        let long : n ≡ length (bytes_of Y) = let g = ap (λ (g : Counted). g.answer) e in cc (g, done) in
+        let long : n ≡ length (bytes_of Y) = cc in
         let seam : take n room ≡ bytes_of Y = rw (long, f) (take-append_seam (bytes_of Y) _) in
         rw seam (sym long)
 
@@ -80,21 +79,21 @@ module _ (d : ℕ) (from to : List ℕ) (c : Collapsing d from to) (X : Table) (
   direction_known = go (leb d 1) (subst (λ (x : Found Table). PutFrom (leb d 1) x (CollapsedByCoarsest (direction d)) c.room_before c.given c.room_after) (reads_found from X r) c.collapses)
     where
       go : (known : Bool) → PutFrom known (found X (length (bytes_of X))) (CollapsedByCoarsest (direction d)) c.room_before c.given c.room_after → known ≡ true
-      go false p = absurd (let e = ap (λ (g : Counted). g.answer) p.0 in let z : ◌≡◌ {A = ℕ} 0 1 = cc (e, c.done) in omega arith)
+      go false p = absurd cc
       go true p = refl
 
   put : (known : Bool) → PutFrom known (found X (length (bytes_of X))) (CollapsedByCoarsest (direction d)) c.room_before c.given c.room_after
       → TablePut (CollapsedByCoarsest (direction d) X) c.room_before c.given c.room_after
-  put false p = absurd (let e = ap (λ (g : Counted). g.answer) p.0 in let z : ◌≡◌ {A = ℕ} 0 1 = cc (e, c.done) in omega arith)
+  put false p = absurd cc
   put true p = p
 
   from_put : TablePut (CollapsedByCoarsest (direction d) X) c.room_before c.given c.room_after → Wrote
   from_put p = go (fits (bytes_of p.table) c.room_before) p.answer_is p.room_is
     where
       go : (b : Bool) → c.given ≡ written b p.table → c.room_after ≡ filled b (bytes_of p.table) c.room_before → Wrote
-      go false e f = absurd (let g = ap (λ (g : Counted). g.answer) e in let z : ◌≡◌ {A = ℕ} 0 1 = cc (g, c.done) in omega arith)
+      go false e f = absurd cc
       go true e f =
-          let n : length to ≡ length (bytes_of p.table) = let g = ap (λ (g : Counted). g.answer) e in cc (g, c.done) in
+          let n : length to ≡ length (bytes_of p.table) = cc in
           let front : take (length to) c.room_after ≡ bytes_of p.table = rw (n, f) (take-append_seam (bytes_of p.table) _) in
           record {
             result = p.table;
@@ -154,8 +153,8 @@ module _ (from : List ℕ) (bytes : (i : ℕ) → get_or from i 0 < 256) (X : Ta
 
   -- and it is not refused if there is room for it: it is done with the same length, and the bytes stand at the front of the room.
   pub same_bytes_with_room : (middle to : List ℕ) (d : ℕ) → Collapsings from middle → Collapsing d middle to
-      → (before : List ℕ) → length to ≤ length before → (c : Counted) (room : List ℕ) → Collapses d to before c room
-      → (c.answer ≡ Done (length to)) × (take (length to) room ≡ to)
+      → (before : List ℕ) → length to ≤ length before → (c : Result Counted Refusal) (room : List ℕ) → Collapses d to before c room
+      → (answer_of c ≡ Ok (length to)) × (take (length to) room ≡ to)
   same_bytes_with_room middle to d s c₀ before long c room p =
       let k = reach from middle X first s in
       let w = wrote d middle to c₀ k.last k.reads in
@@ -166,10 +165,10 @@ module _ (from : List ℕ) (bytes : (i : ℕ) → get_or from i 0 < 256) (X : Ta
       let fit : fits (bytes_of t.table) before ≡ true = rw same (le-leb (length to) (length before) long) in
       let answer : c ≡ written true t.table = t.answer_is ∙ ap (λ (b : Bool). written b t.table) fit in
       let filling : room ≡ filled true (bytes_of t.table) before = t.room_is ∙ ap (λ (b : Bool). filled b (bytes_of t.table) before) fit in
-      (ap (λ (g : Counted). g.answer) answer ∙ ap (λ (bs : List ℕ). Done (length bs)) same, rw (filling, same) (take-append_seam to _))
+      (ap answer_of answer ∙ ap (λ (bs : List ℕ). Ok (length bs)) same, rw (filling, same) (take-append_seam to _))
 
   -- A shrink that is done keeps every tree's weight too.
-  pub shrink_kept : (d : ℕ) (before : List ℕ) (n : ℕ) (given : Counted) (room : List ℕ) → ShrinksTo d from before given room → given.answer ≡ Done n
+  pub shrink_kept : (d : ℕ) (before : List ℕ) (n : ℕ) (given : Result Counted Refusal) (room : List ℕ) → ShrinksTo d from before given room → answer_of given ≡ Ok n
       → (last : Table) × Reads (take n room) last × ((t : Tree) → value last t ≡ value X t)
   shrink_kept d before n given room shrinks done = go (leb d 1) (subst (λ (x : Found Table). PutFrom (leb d 1) x (Shrinks (direction d)) before given room) accepted shrinks)
     where
@@ -177,12 +176,12 @@ module _ (from : List ℕ) (bytes : (i : ℕ) → get_or from i 0 < 256) (X : Ta
       Kept_by = (last : Table) × Reads (take n room) last × ((t : Tree) → value last t ≡ value X t)
 
       wrote_it : (Y : Table) → Shrinks (direction d) X Y → (b : Bool) → given ≡ written b Y → room ≡ filled b (bytes_of Y) before → Kept_by
-      wrote_it Y named false e f = absurd (let g = ap (λ (g : Counted). g.answer) e in let z : ◌≡◌ {A = ℕ} 0 1 = cc (g, done) in omega arith)
+      wrote_it Y named false e f = absurd cc
       wrote_it Y named true e f =
-          let long : n ≡ length (bytes_of Y) = let g = ap (λ (g : Counted). g.answer) e in cc (g, done) in
+          let long : n ≡ length (bytes_of Y) = cc in
           let front : take n room ≡ bytes_of Y = rw (long, f) (take-append_seam (bytes_of Y) _) in
           (Y, record { is = front; proper = shrinks_proper first.proper named }, shrinks_value first.proper named)
 
       go : (known : Bool) → PutFrom known (found X end) (Shrinks (direction d)) before given room → Kept_by
-      go false p = absurd (let e = ap (λ (g : Counted). g.answer) p.0 in let z : ◌≡◌ {A = ℕ} 0 1 = cc (e, done) in omega arith)
+      go false p = absurd cc
       go true p = wrote_it p.table p.named (fits (bytes_of p.table) before) p.answer_is p.room_is

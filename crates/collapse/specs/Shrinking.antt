@@ -6,7 +6,9 @@ use Rattle.numbers.specs.Read.{number_at, more_from}
 use Rattle.model.specs.Table.{Table, Transition, Each, Proper}
 use Rattle.theory.specs.Below.{below_each}
 use Rattle.theory.specs.Blocks.{block_of, member}
-use Rattle.theory.specs.Direction.{Direction, backward, forward, CoarsestBlocks}
+use Rattle.theory.specs.declared.Direction.{Direction}
+use Rattle.theory.specs.declared.Direction.TheVariants.{Backward as backward, Forward as forward}
+use Rattle.theory.specs.Direction.{CoarsestBlocks}
 use Rattle.theory.specs.Uses.{uses}
 use Rattle.theory.proofs.Decision.{coarsest_test_sound}
 use Rattle.theory.specs.Collapse.{CollapsedByCoarsest}

@@ -1,14 +1,15 @@
 -- Marks on states: nothing that is marked is cleared.
-use Prim.Native.Nat.{ℕ, ◌+◌, ◌*◌, ◌≤◌, ◌<◌}
+use Prim.Native.Nat.{ℕ, ◌+◌, ◌-◌, ◌≤◌, ◌<◌}
 use mathlib.Core.Bool.{Bool, true, false}
 use mathlib.Core.List.{List}
 use mathlib.Core.Logic.{◌⊎◌, inl, inr}
 use mathlib.Core.Path.{◌≡◌, sym, ◌∙◌, subst}
 use native.Mathlib.Decide.{ℕ_discrete, dec_lt}
 use native.Mathlib.Omega.{arith}
-use lib.ListN.{length, get_or, set, length-set}
+use lib.ListN.{length, get_or, set, take, drop, length-set}
+use Rattle.std.proofs.lemmas.List.{get_or-take, get_or-drop}
 use lib.Seq.{get_or-set_same, get_or-set_other}
-use Rattle.dependents.specs.Marks.{Marked, Child, SomeIn, marking_starts}
+use Rattle.dependents.specs.Marks.{Marked, SomeIn, marking_starts}
 use Rattle.partition.specs.Members.{flag}
 
 -- one state is marked
@@ -46,25 +47,6 @@ below_or_last P i k l h = go (dec_lt i k)
     go (yes m) = inl m
     go (no m) = let e : i ≡ k = omega arith in inr (subst P e h)
 
--- the children of transition j up to place k
-abbrev pub ChildBelow : List ℕ → ℕ → ℕ → ℕ → Type 0
-ChildBelow children j k q = (i : ℕ) × (i < k) × (get_or children (j * 4 + i) 0 ≡ q)
-
-pub marking_child : (children : List ℕ) (j k : ℕ) (before dirty : List Bool) → Marked (ChildBelow children j k) before dirty
-    → (x : ℕ) → x ≡ get_or children (j * 4 + k) 0 → x < 256 → Marked (ChildBelow children j (k + 1)) before (set dirty x true)
-marking_child children j k before dirty so_far x e l =
-    marking_then (ChildBelow children j k) (λ q. x ≡ q) (ChildBelow children j (k + 1)) before dirty (set dirty x true) so_far (marking_one dirty x so_far.long l)
-    (λ q h. go q h (below_or_last (λ i. get_or children (j * 4 + i) 0 ≡ q) h.0 k h.1 h.2))
-  where
-    go : (q : ℕ) (h : ChildBelow children j (k + 1) q) → (h.0 < k) ⊎ (get_or children (j * 4 + k) 0 ≡ q) → ChildBelow children j k q ⊎ (x ≡ q)
-    go q h (inl m) = inl (h.0, m, h.2)
-    go q h (inr d) = inr (e ∙ d)
-
-pub marking_children : (ranks symbol children : List ℕ) (j k : ℕ) (before dirty : List Bool) → Marked (ChildBelow children j k) before dirty
-    → get_or ranks (get_or symbol j 0) 0 ≤ k → Marked (Child ranks symbol children j) before dirty
-marking_children ranks symbol children j k before dirty m l =
-    marking_less (ChildBelow children j k) (Child ranks symbol children j) before dirty m (λ q h. (h.0, omega (arith, h.1), h.2))
-
 -- what the numbers from lo to i lead to, and then i
 module _ (lo i : ℕ) (L : ℕ → ℕ → Type 0) (before : List Bool) where
   pub marking_none : length before ≡ 256 → i ≤ lo → Marked (λ q. SomeIn lo i (λ x. L x q)) before before
@@ -81,3 +63,17 @@ module _ (lo i : ℕ) (L : ℕ → ℕ → Type 0) (before : List Bool) where
 
   pub marking_skips : (dirty : List Bool) → Marked (λ q. SomeIn lo i (λ x. L x q)) before dirty → ((q : ℕ) → L i q → ⊥) → Marked (λ q. SomeIn lo (i + 1) (λ x. L x q)) before dirty
   marking_skips dirty m none = marking_next dirty dirty m (marking_starts (L i) dirty none m.long)
+
+-- place i of a part is place a + i of the whole
+pub item_of_part : (a n i : ℕ) (l : List ℕ) → i < n → get_or (take n (drop a l)) i 0 ≡ get_or l (a + i) 0
+item_of_part a n i l h = get_or-take n (drop a l) i 0 h ∙ get_or-drop a l i 0
+
+-- what the numbers of a part of a list lead to
+pub marking_part : (a n i : ℕ) (l : List ℕ) (L : ℕ → ℕ → Type 0) (before dirty : List Bool) → length (take n (drop a l)) ≡ n → length (take n (drop a l)) ≤ i
+    → Marked (λ q. SomeIn 0 i (λ k. L (get_or (take n (drop a l)) k 0) q)) before dirty → Marked (λ q. SomeIn a (a + n) (λ k. L (get_or l k 0) q)) before dirty
+marking_part a n i l L before dirty many all so_far = marking_less _ _ before dirty so_far (λ q h. found q h.0 h.1 h.2 h.3)
+  where
+    found : (q k : ℕ) → a ≤ k → k < a + n → L (get_or l k 0) q → SomeIn 0 i (λ j. L (get_or (take n (drop a l)) j 0) q)
+    found q k g m h =
+        let e : a + (k - a) ≡ k = omega arith in
+        (k - a, omega arith, omega (arith, many), rw (item_of_part a n (k - a) l (omega arith), e) h)

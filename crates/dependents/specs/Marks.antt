@@ -1,6 +1,7 @@
 -- Which states are marked as dirty.
 use Rattle.std.specs.Prelude.{ℕ, suc, ◌+◌, ◌*◌, ◌/◌, ◌≤◌, ◌<◌, Bool, true, List, ◌≢◌, ◌≡◌, length, get_or}
-use Rattle.theory.specs.Direction.{Direction, backward, forward}
+use Rattle.theory.specs.declared.Direction.{Direction}
+use Rattle.theory.specs.declared.Direction.TheVariants.{Backward as backward, Forward as forward}
 use Rattle.uses.specs.Lists.{start}
 use Rattle.partition.specs.Members.{flag}
 

@@ -1,11 +1,9 @@
 -- What reading a table finds: byte by byte, each number tested as it is read, the first refusal that applies
 -- (document 01, "Bytes" and "Numbers that come back", codes 1 to 7; document 02, M-104, code 19).
-use Rattle.std.specs.Prelude.{ℕ, zero, suc, Bool, true, false, ◌&&◌, List, [], ◌∷◌, length, get_or, leb, ltb}
+use Rattle.std.specs.Prelude.{ℕ, zero, suc, Bool, true, false, ◌&&◌, List, [], ◌∷◌, length, get_or, leb, ltb, Ok, Err}
 use Rattle.answers.specs.declared.Refusal.{Refusal}
 use Rattle.answers.specs.declared.Refusal.TheVariants.{OutOfRange, NotInTable, ZeroCode, NotAbove, TableGoesOn}
-use Rattle.numbers.specs.declared.NumberRead.{NumberRead}
-use Rattle.numbers.specs.declared.NumberRead.TheVariants.{Number, Refused}
-use Rattle.numbers.specs.Read.{number_at}
+use Rattle.numbers.specs.Read.{NumberRead, number_at}
 use Rattle.model.specs.Table.{Table, Transition, key, lower}
 
 -- what is found at a place: a value with the next place, or the refusal
@@ -24,8 +22,8 @@ provided true refusal x = x
 provided false refusal x = refused refusal
 
 abbrev pub as_found : NumberRead → Found ℕ
-as_found (Number n next) = found n next.at
-as_found (Refused refusal) = refused refusal
+as_found (Ok (n, next)) = found n next.at
+as_found (Err refusal) = refused refusal
 
 module _ (s : List ℕ) where
   -- a number

@@ -6,7 +6,7 @@ use native.Mathlib.Decide.{ℕ_discrete}
 use native.Mathlib.Omega.{arith}
 use lib.ListN.{length, get_or, set}
 use lib.Seq.{get_or-set_same, get_or-set_other, slice, slice_empty, slice-cons}
-use Rattle.profiles.specs.Entries.{Entry, entry_at, entries_from, entries, Region}
+use Rattle.profiles.specs.Entries.{Entry, entry_at, entries_from, entries}
 use Rattle.profiles.specs.Kept.{Kept, kept_self, kept_trans, kept_set}
 use Rattle.grouping.specs.Steps.{Filled}
 
@@ -19,21 +19,21 @@ module _ (lo hi : ℕ) (entry : ℕ → Entry) (list keys₀ codes₀ : List ℕ
     pub keys_kept : Kept lo hi keys₀ keys
     pub codes_kept : Kept lo hi codes₀ codes
 
-  pub filling_starts : Region lo hi keys₀ codes₀ → Filling keys₀ codes₀ lo
-  filling_starts r = record {
+  pub filling_starts : lo ≤ hi → Filling keys₀ codes₀ lo
+  filling_starts ordered = record {
     begin = omega arith;
-    some = r.ordered;
+    some = ordered;
     done = λ k l h. absurd (omega arith);
     keys_kept = kept_self lo hi keys₀;
     codes_kept = kept_self lo hi codes₀;
   }
 
-  module _ (region : Region lo hi keys₀ codes₀) (keys codes : List ℕ) (i : ℕ) (so_far : Filling keys codes i) (more : i < hi) where
+  module _ (keys_long : length keys₀ ≡ 16000) (codes_long : length codes₀ ≡ 16000) (inside : hi ≤ 16000) (keys codes : List ℕ) (i : ℕ) (so_far : Filling keys codes i) (more : i < hi) where
     long_keys : length keys ≡ 16000
-    long_keys = so_far.keys_kept.long ∙ region.keys_long
+    long_keys = so_far.keys_kept.long ∙ keys_long
 
     long_codes : length codes ≡ 16000
-    long_codes = so_far.codes_kept.long ∙ region.codes_long
+    long_codes = so_far.codes_kept.long ∙ codes_long
 
     pub filling_goes_on : (key code : ℕ) → key ≡ (entry (get_or list i 0)).key → code ≡ (entry (get_or list i 0)).code → Filling (set keys i key) (set codes i code) (i + 1)
     filling_goes_on key code k c = record {
@@ -46,8 +46,8 @@ module _ (lo hi : ℕ) (entry : ℕ → Entry) (list keys₀ codes₀ : List ℕ
       where
         here : entry_at (set keys i key) (set codes i code) i ≡ entry (get_or list i 0)
         here = λ x. record {
-          key = (get_or-set_same keys i key 0 (omega (arith, long_keys, region.inside)) ∙ k) x;
-          code = (get_or-set_same codes i code 0 (omega (arith, long_codes, region.inside)) ∙ c) x;
+          key = (get_or-set_same keys i key 0 (omega (arith, long_keys, inside)) ∙ k) x;
+          code = (get_or-set_same codes i code 0 (omega (arith, long_codes, inside)) ∙ c) x;
         }
 
         done : (n : ℕ) → lo ≤ n → n < i + 1 → Dec (n ≡ i) → entry_at (set keys i key) (set codes i code) n ≡ entry (get_or list n 0)
@@ -65,10 +65,10 @@ module _ (lo hi : ℕ) (entry : ℕ → Entry) (list keys₀ codes₀ : List ℕ
       ap₂ ◌∷◌ (h f (omega arith) (omega arith)) (entries-of keys codes n (suc f) (omega arith) l (λ k m b. h k (omega arith) b))
       ∙ ap (map entry) (sym (slice-cons f hi list 0 (omega arith) l))
 
-  pub filling_ends : Region lo hi keys₀ codes₀ → length list ≡ 16000 → (keys codes : List ℕ) (i : ℕ) → Filling keys codes i → hi ≤ i → Filled lo hi (map entry (slice lo hi list)) keys₀ codes₀ keys codes
+  pub filling_ends : lo ≤ hi → hi ≤ 16000 → length list ≡ 16000 → (keys codes : List ℕ) (i : ℕ) → Filling keys codes i → hi ≤ i → Filled lo hi (map entry (slice lo hi list)) keys₀ codes₀ keys codes
   unfolding entries
-  filling_ends region long keys codes i so_far h = record {
-    there = entries-of keys codes (hi - lo) lo (omega (arith, region.ordered)) (omega (arith, region.inside)) (λ k l m. so_far.done k l (omega arith));
+  filling_ends ordered inside long keys codes i so_far h = record {
+    there = entries-of keys codes (hi - lo) lo (omega arith) (omega arith) (λ k l m. so_far.done k l (omega arith));
     keys_kept = so_far.keys_kept;
     codes_kept = so_far.codes_kept;
   }

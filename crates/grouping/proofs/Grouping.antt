@@ -4,10 +4,11 @@ use mathlib.Core.List.{List}
 use mathlib.Core.Path.{◌≡◌, refl, sym, ◌∙◌, subst}
 use native.Mathlib.Decide.{dec_lt}
 use native.Mathlib.Omega.{arith}
-use lib.ListN.{length, get_or, set}
+use lib.ListN.{length, get_or, set, take}
+use Rattle.std.proofs.Common.{get_or-take, length-take-le}
 use lib.Seq.{get_or-set_same, get_or-set_other}
 use Rattle.profiles.specs.Entries.{Entry}
-use Rattle.grouping.specs.Groups.{Same, Grouped}
+use Rattle.grouping.specs.Groups.{Same, FirstSame, Grouped}
 
 module _ (a : ℕ) (profile : ℕ → List Entry) where
   same_sym : (p q : ℕ) → Same a (profile p) (profile q) → Same a (profile q) (profile p)
@@ -15,6 +16,16 @@ module _ (a : ℕ) (profile : ℕ → List Entry) where
 
   same_trans : (p q r : ℕ) → Same a (profile p) (profile q) → Same a (profile q) (profile r) → Same a (profile p) (profile r)
   same_trans p q r h i j = h j ∙ i j
+
+  -- the first of the leaders in use, found among these alone
+  pub found_among : (p parts m : ℕ) (leaders : List ℕ) → parts ≤ length leaders → FirstSame a profile p (length (take parts leaders)) (take parts leaders) m → FirstSame a profile p parts leaders m
+  found_among p parts m leaders few first =
+      let whole : length (take parts leaders) ≡ parts = length-take-le parts leaders few in
+      record {
+        some = omega (arith, first.some);
+        same = λ l. rw (get_or-take parts leaders m 0 l) at (first.same (omega arith));
+        differ = λ k l s. let used : k < parts = omega (arith, first.some) in first.differ k l (rw (get_or-take parts leaders k 0 used) s);
+      }
 
   -- i of the members are in parts, each of which has a leader
   pub record Grouping (found : List ℕ) (i parts : ℕ) (leaders part : List ℕ) : Type 0 where

@@ -1,4 +1,5 @@
 pub mod Filling
 pub mod Grouping
+pub mod Packed
 pub mod Profiling
 pub mod Regions

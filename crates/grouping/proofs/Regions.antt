@@ -5,22 +5,26 @@ use mathlib.Core.Path.{◌≡◌, sym, ap, ◌∙◌}
 use native.Mathlib.Omega.{arith}
 use lib.ListN.{length, get_or, set}
 use lib.Seq.{get_or-set_same}
-use Rattle.theory.specs.Direction.{Direction}
+use Rattle.theory.specs.declared.Direction.{Direction}
 use Rattle.profiles.specs.Entries.{Entry}
 use Rattle.profiles.specs.Sums.{sum_at}
-use Rattle.uses.specs.Lists.{listed, ListedUses, starts_ascend}
-use Rattle.grouping.specs.Groups.{entries_of, Ready, Grouped}
-use Rattle.grouping.specs.Steps.{AllProfiled}
+use Rattle.profiles.specs.declared.Entries.{Entries}
+use Rattle.tables.specs.declared.TableRecord.{TableRecord}
+use Rattle.uses.specs.declared.Uses.{Uses}
+use Rattle.uses.specs.Tables.{listed_in, ListsUses}
+use Rattle.grouping.specs.Groups.{profile_in, Ready, Grouped}
+use Rattle.grouping.specs.Steps.{AllProfiledIn}
+use Rattle.grouping.proofs.Profiling.{starts_inside}
 
-module _ (d : Direction) (ranks symbol starts list : List ℕ) (readable : ListedUses d ranks symbol starts list) (entry : ℕ → Entry) (a many : ℕ) (found ends keys codes : List ℕ)
-    (known : (i : ℕ) → i < many → get_or found i 0 < 256) (profiled : AllProfiled entry a many found starts list ends keys codes) where
-  pub ready : length keys ≡ 16000 → length codes ≡ 16000 → (i : ℕ) → i < many → Ready starts ends keys codes (get_or found i 0)
-  ready k c i l =
+module _ (d : Direction) (t : TableRecord) (u : Uses) (readable : ListsUses d t u) (entry : ℕ → Entry) (a many : ℕ) (found ends : List ℕ) (e : Entries)
+    (bytes : (i : ℕ) → get_or found i 0 < 256) (profiled : AllProfiledIn entry a u many found ends e) where
+  pub ready : (i : ℕ) → i < many → Ready u ends e (get_or found i 0)
+  ready i l =
       let p = profiled i l in
-      let most = starts_ascend d ranks symbol starts list readable (suc (get_or found i 0)) 256 (known i l) (omega arith) in
-      record { region = record { ordered = p.above; inside = omega (arith, p.within, readable.few); keys_long = k; codes_long = c }; summed = p.summed }
+      let whole = starts_inside d t u readable (get_or found i 0) (bytes i) in
+      record { ordered = p.above; inside = omega (arith, p.within, whole.1, whole.2); summed = p.summed }
 
-  pub grouped_profiles : (parts : ℕ) (part : List ℕ) → Grouped a (entries_of starts ends keys codes) many found parts part → Grouped a (λ p. map entry (listed starts list p)) many found parts part
+  pub grouped_profiles : (parts : ℕ) (part : List ℕ) → Grouped a (profile_in u ends e) many found parts part → Grouped a (λ p. map entry (listed_in u p)) many found parts part
   grouped_profiles parts part g = record {
     few = g.few;
     within = g.within;

@@ -1,10 +1,12 @@
 -- The key of a use under blocks, packed into one number.
 use Rattle.std.specs.Prelude.{ℕ, ◌+◌, ◌*◌, ◌/◌, ◌%◌, List, [], ◌∷◌, map, get_or, take, drop}
-use Rattle.theory.specs.Direction.{Direction, backward, forward}
+use Rattle.theory.specs.declared.Direction.{Direction}
+use Rattle.theory.specs.declared.Direction.TheVariants.{Backward as backward, Forward as forward}
 use Rattle.theory.specs.Profile.{Key}
 use Rattle.theory.specs.Uses.{others}
 use Rattle.profiles.specs.Entries.{Entry}
 use Rattle.profiles.specs.Packing.{packed}
+use Rattle.tables.specs.declared.TableRecord.{TableRecord}
 use Rattle.uses.specs.Theory.{row_for}
 
 -- the first fixed number, a symbol (there are at most 128), stands above 40 bits for what follows; the second, a place, above the symbol
@@ -31,3 +33,10 @@ key_in forward ranks symbol children target b u =
 abbrev pub entry_of : Direction → List ℕ → List ℕ → List ℕ → List ℕ → List ℕ → (ℕ → ℕ) → ℕ → Entry
 entry_of d ranks symbol children target code b u =
     record { key = pack (key_in d ranks symbol children target b u); code = get_or code (row_for d u) 0 }
+
+-- the packed key, and the entry, of a use of a table's transitions
+abbrev pub key_under : Direction → TableRecord → (ℕ → ℕ) → ℕ → ℕ
+key_under d t b u = pack (key_in d t.ranks t.symbol t.children t.target b u)
+
+abbrev pub entry_in : Direction → TableRecord → (ℕ → ℕ) → ℕ → Entry
+entry_in d t b u = entry_of d t.ranks t.symbol t.children t.target t.code b u

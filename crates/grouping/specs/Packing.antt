@@ -1,6 +1,7 @@
 -- Keys packed into one number, digit by digit.
 use Rattle.std.specs.Prelude.{ℕ, suc, ◌+◌, ◌-◌, ◌*◌, ◌≤◌, ◌<◌, cond, List, [], ◌∷◌, ◌≢◌, ◌≡◌, refl, eqb, length, get_or, take, drop}
 use Rattle.std.proofs.Common.{ap, ◌∙◌, add-one, arith, eq-eqb, ne_eqb, length-take, length-drop, drop_of_length-le, drop-cons, get_or-take, get_or-drop, length-take-le}
+use Rattle.std.proofs.lemmas.List.{at_drop_more}
 use Rattle.std.proofs.Math.Decide.{ℕ_discrete}
 use Rattle.std.proofs.Math.Nat.{sub-zero}
 use Rattle.theory.specs.Uses.{others}
@@ -48,13 +49,9 @@ pub elsewhere_next : (place : ℕ) (q : ℕ) (qs : List ℕ) (k : ℕ) → k ≢
 elsewhere_next place q qs k d = rw (ne_eqb k place d)
 
 -- the next child goes behind the packed ones, unless it stands at the place
-module _ (children : List ℕ) (j rank k place n : ℕ) (long : length children ≡ 16000) (inside : j < 4000) (few : rank ≤ 4) (more : k < rank) where
-  pub packing_next : k ≢ place → packed n (elsewhere place k (drop k (take rank (drop (j * 4) children))))
-      ≡ packed (n * 256 + get_or children (j * 4 + k) 0) (elsewhere place (k + 1) (drop (k + 1) (take rank (drop (j * 4) children))))
-  packing_next d = ap (λ (qs : List ℕ). packed n (elsewhere place k qs)) (children_next children j rank k long inside few more)
-      ∙ ap (packed n) (elsewhere_next place (get_or children (j * 4 + k) 0) (drop (k + 1) (take rank (drop (j * 4) children))) k d)
+module _ (qs : List ℕ) (k place n : ℕ) (more : k < length qs) where
+  pub packing_next : k ≢ place → packed n (elsewhere place k (drop k qs)) ≡ packed (n * 256 + get_or qs k 0) (elsewhere place (k + 1) (drop (k + 1) qs))
+  packing_next d = at_drop_more (λ rest. packed n (elsewhere place k rest)) qs k 0 more ∙ ap (packed n) (elsewhere_next place (get_or qs k 0) (drop (k + 1) qs) k d)
 
-  pub packing_skips : k ≡ place → packed n (elsewhere place k (drop k (take rank (drop (j * 4) children))))
-      ≡ packed n (elsewhere place (k + 1) (drop (k + 1) (take rank (drop (j * 4) children))))
-  packing_skips e = ap (λ (qs : List ℕ). packed n (elsewhere place k qs)) (children_next children j rank k long inside few more)
-      ∙ ap (packed n) (elsewhere_here place (get_or children (j * 4 + k) 0) (drop (k + 1) (take rank (drop (j * 4) children))) k e)
+  pub packing_skips : k ≡ place → packed n (elsewhere place k (drop k qs)) ≡ packed n (elsewhere place (k + 1) (drop (k + 1) qs))
+  packing_skips e = at_drop_more (λ rest. packed n (elsewhere place k rest)) qs k 0 more ∙ ap (packed n) (elsewhere_here place (get_or qs k 0) (drop (k + 1) qs) k e)

@@ -1,81 +1,75 @@
 // Members with the same profile are one part.
 
-ghost use Rattle.std.specs.Prelude.{◌≡◌, ℕ, ◌≤◌, ◌<◌, length, get_or};
+ghost use Rattle.std.specs.Prelude.{ℕ, ◌≤◌, ◌<◌, length, get_or};
 ghost use Rattle.profiles.specs.Sums.{Compares};
-ghost use Rattle.grouping.specs.Groups.{entries_of, Ready, FirstSame, Grouped};
+ghost use Rattle.grouping.specs.Groups.{profile_in, Ready, PartFound, Grouped};
 
-use crate::{wide, wide16};
+use profiles::{Entries, Region};
 use states::State;
+use uses::Uses;
 
 // Whether two states have the same profile.
-fn alike<'a>(
-    p: State,
-    q: State,
-    starts: &[u16; 257],
-    ends: &[u16; 256],
-    keys: &'a [u64; 16000],
-    codes: &'a [u32; 16000],
-) -> bool
-    requires { (length starts.now ≡ 257) × (length ends.now ≡ 256) × Ready starts.now ends.now keys.now codes.now p.0 × Ready starts.now ends.now keys.now codes.now q.0 }
-    ensures { Compares (entries_of starts.now ends.now keys.now codes.now p.0) (entries_of starts.now ends.now keys.now codes.now q.0) result }
+fn alike(p: State, q: State, uses: &Uses, ends: &[u16; 256], entries: &Entries) -> bool
+    requires first { Ready uses.now ends.now entries.now p.0 }
+    requires second { Ready uses.now ends.now entries.now q.0 }
+    ensures { Compares (profile_in uses.now ends.now entries.now p.0) (profile_in uses.now ends.now entries.now q.0) result }
 {
-    let i = wide(p.0);
-    let k = wide(q.0);
-    let lo = wide16(starts[i]);
-    let hi = wide16(ends[i]);
-    let from = wide16(starts[k]);
-    let to = wide16(ends[k]);
-    profiles::same(keys, codes, lo, hi, from, to)
+    let i = p.0 as usize;
+    let k = q.0 as usize;
+    let first = Region {
+        lo: uses.starts[i] as usize,
+        hi: ends[i] as usize,
+    };
+    let second = Region {
+        lo: uses.starts[k] as usize,
+        hi: ends[k] as usize,
+    };
+    entries.same(first, second)
 }
 
-// The part whose leader has p's profile; the number of parts if there is none.
-fn find_part<'a>(
+// The first of the parts whose leader has p's profile, if there is one.
+fn find_part(
     p: State,
-    parts: usize,
-    leaders: &[u8; 256],
-    starts: &[u16; 257],
+    leaders: &[u8],
+    uses: &Uses,
     ends: &[u16; 256],
-    keys: &'a [u64; 16000],
-    codes: &'a [u32; 16000],
-) -> usize
-    requires { (length starts.now ≡ 257) × (length ends.now ≡ 256) × (length leaders.now ≡ 256) × (parts ≤ 256) × Ready starts.now ends.now keys.now codes.now p.0 × ((m : ℕ) → m < parts → Ready starts.now ends.now keys.now codes.now (get_or leaders.now m 0)) }
-    ensures { (a : ℕ) → FirstSame a (entries_of starts.now ends.now keys.now codes.now) p.0 parts leaders.now result }
+    entries: &Entries,
+) -> Option<usize>
+    requires own { Ready uses.now ends.now entries.now p.0 }
+    requires leaders { (m : ℕ) → m < length leaders.now → Ready uses.now ends.now entries.now (get_or leaders.now m 0) }
+    ensures { (a : ℕ) → PartFound a (profile_in uses.now ends.now entries.now) p.0 (length leaders.now) leaders.now result }
 {
-    let mut m = 0;
-    while m < parts {
-        if alike(State(leaders[m]), p, starts, ends, keys, codes) {
-            return m;
+    for (m, leader) in leaders.iter().enumerate() {
+        if alike(State(*leader), p, uses, ends, entries) {
+            return Some(m);
         }
-        m += 1;
     }
-    m
+    None
 }
 
 // Puts members into parts. Answers how many parts there are.
-pub fn group_by_profile<'a>(
-    many: usize,
-    found: &[u8; 256],
-    starts: &[u16; 257],
+pub fn group_by_profile(
+    members: &[u8],
+    uses: &Uses,
     ends: &[u16; 256],
-    keys: &'a [u64; 16000],
-    codes: &'a [u32; 16000],
+    entries: &Entries,
     part: &mut [u8; 256],
 ) -> usize
-    requires { (length starts.now ≡ 257) × (length ends.now ≡ 256) × (length found.now ≡ 256) × (length part.old ≡ 256) × (many ≤ 256) × ((i : ℕ) → i < many → Ready starts.now ends.now keys.now codes.now (get_or found.now i 0)) }
-    ensures { (length part.new ≡ 256) × ((a : ℕ) → Grouped a (entries_of starts.now ends.now keys.now codes.now) many found.now result part.new) }
+    requires few { length members.now ≤ 256 }
+    requires ready { (i : ℕ) → i < length members.now → Ready uses.now ends.now entries.now (get_or members.now i 0) }
+    ensures { (a : ℕ) → Grouped a (profile_in uses.now ends.now entries.now) (length members.now) members.now result part.new }
 {
     let mut leaders = [0u8; 256];
     let mut parts = 0;
-    let mut i = 0;
-    while i < many {
-        let p = found[i];
-        let m = find_part(State(p), parts, &leaders, starts, ends, keys, codes);
-        part[i] = m as u8;
-        if m == parts {
-            leaders[m] = p;
-            parts += 1;
+    for (i, p) in members.iter().enumerate() {
+        match find_part(State(*p), &leaders[..parts], uses, ends, entries) {
+            Some(m) => part[i] = m as u8,
+            None => {
+                part[i] = parts as u8;
+                leaders[parts] = *p;
+                parts += 1;
+            }
         }
-        i += 1;
     }
     parts
 }

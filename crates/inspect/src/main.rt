@@ -3,10 +3,9 @@
 
 #![tactic(auto)]
 
-ghost use Rattle.std.specs.Prelude.{◌≡◌, ◌≤◌, length, IfOk};
-ghost use Rattle.answers.specs.Numbers.{answer_figure};
+ghost use Rattle.std.specs.Prelude.{◌≤◌, length, IfOk};
 
-use answers::{Answer, Refusal};
+use collapse::Counted;
 use std::io;
 use std::io::Read;
 use tables::TableRecord;
@@ -18,7 +17,8 @@ fn main(rt: HostRuntime) -> io::Result<()> {
     show(&rt, &input[..length])
 }
 
-// Reads until the buffer is full or the input ends: how many bytes it put at the start of the buffer.
+// Reads until the buffer is full or the input ends: how many bytes it put at the start of the buffer. (The library reads on into a
+// Vec, and there is no heap here; a read may give fewer bytes than there is room for, so the loop doesn't count one by one.)
 fn read_full<R: Read>(input: &mut R, buffer: &mut [u8]) -> io::Result<usize>
     ensures { IfOk result (λ n. n ≤ length buffer.new) }
 {
@@ -37,22 +37,20 @@ fn read_full<R: Read>(input: &mut R, buffer: &mut [u8]) -> io::Result<usize>
 // so that none refuses what the first has taken.
 #[tactic(auto, using(crate::proofs::Few::states_few))]
 fn show(rt: &impl Print, table: &[u8]) -> io::Result<()> {
-    let reading = tables::read(table);
-    let answer = reading.answer;
-    match answer {
-        Answer::Done(states) => {
-            show_header(rt, reading.table)?;
-            show_blocks(rt, 0, table, states)?;
-            show_blocks(rt, 1, table, states)?;
-            show_collapse(rt, 0, table)?;
-            show_collapse(rt, 1, table)
+    match tables::read(table) {
+        Ok(record) => {
+            show_header(rt, &record)?;
+            show_blocks(rt, "backward", 0, table, record.states)?;
+            show_blocks(rt, "forward", 1, table, record.states)?;
+            show_collapse(rt, "backward", 0, table)?;
+            show_collapse(rt, "forward", 1, table)
         }
-        Answer::Refused(refusal) => show_refusal(rt, refusal),
+        Err(refusal) => println!(rt; "refused {refusal}"),
     }
 }
 
-fn show_header(rt: &impl Print, table: TableRecord) -> io::Result<()> {
-    let arithmetic = table.arithmetic;
+fn show_header(rt: &impl Print, table: &TableRecord) -> io::Result<()> {
+    let arithmetic = table.arithmetic.number();
     let states = table.states;
     let symbols = table.symbols;
     let transitions = table.count;
@@ -61,57 +59,34 @@ fn show_header(rt: &impl Print, table: TableRecord) -> io::Result<()> {
     )
 }
 
-fn show_refusal(rt: &impl Print, refusal: Refusal) -> io::Result<()> {
-    let code = answers::code(refusal);
-    let figure = answers::figure(refusal);
-    println!(rt; "refused {code} at {figure}")
-}
-
-// The number of blocks, and the block of each state.
-fn show_blocks(rt: &impl Print, direction: u32, table: &[u8], states: usize) -> io::Result<()>
+// The number of blocks, and the block of each state. (A refusal, which cannot come here, would have its figure in the number's place.)
+fn show_blocks(
+    rt: &impl Print,
+    name: &str,
+    direction: u32,
+    table: &[u8],
+    states: usize,
+) -> io::Result<()>
     requires { states ≤ 256 }
 {
     let mut room = [0u8; 256];
-    let number = figure_of(collapse::blocks(direction, table, &mut room));
-    print_direction(rt, direction)?;
-    print!(rt; " blocks {number} :")?;
-    print_each(rt, &room, states)?;
+    let number = collapse::blocks(direction, table, &mut room).unwrap_or_else(
+        |refusal| refusal.figure(),
+    );
+    print!(rt; "{name} blocks {number} :")?;
+    for block in &room[..states] {
+        print!(rt; " {block}")?;
+    }
     println!(rt; "")
 }
 
 // How long the collapsed table is, and how many transitions it has.
-fn show_collapse(rt: &impl Print, direction: u32, table: &[u8]) -> io::Result<()> {
+fn show_collapse(rt: &impl Print, name: &str, direction: u32, table: &[u8]) -> io::Result<()> {
     let mut room = [0u8; 65415];
     let collapsed = collapse::collapse(direction, table, &mut room);
-    let length = figure_of(collapsed.answer);
-    let transitions = collapsed.transitions;
-    print_direction(rt, direction)?;
-    println!(rt; " table {length} bytes {transitions} transitions")
-}
-
-fn figure_of(answer: Answer) -> usize
-    ensures { result ≡ answer_figure answer }
-{
-    match answer {
-        Answer::Done(figure) => figure,
-        Answer::Refused(refusal) => answers::figure(refusal),
-    }
-}
-
-fn print_direction(rt: &impl Print, direction: u32) -> io::Result<()> {
-    if direction == 0 {
-        print!(rt; "backward")
-    } else {
-        print!(rt; "forward")
-    }
-}
-
-// The blocks of so many states, a space before each.
-fn print_each(rt: &impl Print, blocks: &[u8; 256], states: usize) -> io::Result<()>
-    requires { states ≤ 256 }
-{
-    for block in &blocks[..states] {
-        print!(rt; " {block}")?;
-    }
-    Ok(())
+    let length = collapsed
+        .map(|counted| counted.length)
+        .unwrap_or_else(|refusal| refusal.figure());
+    let (_, transitions) = Counted::counts_beside(collapsed);
+    println!(rt; "{name} table {length} bytes {transitions} transitions")
 }

@@ -1,12 +1,10 @@
 -- The reader names exactly the cause that is met, and no number is both padded and too large (document 02, M-104).
-use Rattle.std.specs.Prelude.{ℕ, zero, suc, ◌+◌, ◌-◌, ◌≤◌, ◌<◌, ◌⊎◌, ◌≡◌, refl, List, length, get_or}
+use Rattle.std.specs.Prelude.{ℕ, zero, suc, ◌+◌, ◌-◌, ◌≤◌, ◌<◌, ◌⊎◌, ◌≡◌, refl, List, length, get_or, Ok, Err}
 use Rattle.std.proofs.Common.{inl, inr, ⊎_elim, sym, ap, ◌∙◌, subst, arith, add-zero}
 use Rattle.std.proofs.Math.Decide.{dec_le, dec_lt, ℕ_discrete}
 use Rattle.std.proofs.Math.ListN.{get_or-eq_default}
 use Rattle.answers.specs.declared.Refusal.{Refusal}
-use Rattle.numbers.specs.declared.NumberRead.{NumberRead}
-use Rattle.numbers.specs.declared.NumberRead.TheVariants.{Number, Refused}
-use Rattle.numbers.specs.Read.{number, with_lowest, more_from, number_at, more_ends, number_ends, more_padded, more_last, more_more, fifth_large, fifth_last, number_short, number_long}
+use Rattle.numbers.specs.Read.{NumberRead, number, with_lowest, more_from, number_at, more_ends, number_ends, more_padded, more_last, more_more, fifth_large, fifth_last, number_short, number_long}
 use Rattle.numbers.specs.Causes.{GoesOn, Padded, TooLarge, Cause, ended, padded, large}
 
 -- No number is both padded and too large.
@@ -43,41 +41,41 @@ goes_further s at count h top i l = go (dec_lt i count)
     go (no k) = let last : count ≡ i = omega arith in subst (λ (j : ℕ). 128 ≤ get_or s (at + j) 0) last top
 
 -- a refusal behind the lowest group is the number's
-lowest_refused : (low : ℕ) (r : NumberRead) (refusal : Refusal) → with_lowest low r ≡ Refused refusal → r ≡ Refused refusal
-lowest_refused low (Number n next) refusal e = let z : ◌≡◌ {A = ℕ} 0 1 = cc in absurd (omega arith)
-lowest_refused low (Refused refusal₁) refusal e = e
+lowest_refused : (low : ℕ) (r : NumberRead) (refusal : Refusal) → with_lowest low r ≡ Err refusal → r ≡ Err refusal
+lowest_refused low (Ok (n, next)) refusal e = let z : ◌≡◌ {A = ℕ} 0 1 = cc in absurd (omega arith)
+lowest_refused low (Err refusal₁) refusal e = e
 
-never_number : (n next : ℕ) (r : NumberRead) (refusal : Refusal) → r ≡ number n next → r ≡ Refused refusal → ⊥
+never_number : (n next : ℕ) (r : NumberRead) (refusal : Refusal) → r ≡ number n next → r ≡ Err refusal → ⊥
 never_number n next r refusal e f = let z : ◌≡◌ {A = ℕ} 0 1 = cc in omega arith
 
 module _ (s : List ℕ) (first : ℕ) (refusal : Refusal) where
   -- a refusal behind so many bytes that go on
-  more_behind : (count g more at : ℕ) → more ≡ g + count → GoesOn s at count → more_from g s first (at + count) ≡ Refused refusal → more_from more s first at ≡ Refused refusal
+  more_behind : (count g more at : ℕ) → more ≡ g + count → GoesOn s at count → more_from g s first (at + count) ≡ Err refusal → more_from more s first at ≡ Err refusal
   more_behind zero g more at m h e =
       let same : more ≡ g = omega arith in
-      rw same (subst (λ (j : ℕ). more_from g s first j ≡ Refused refusal) (add-zero at) e)
+      rw same (subst (λ (j : ℕ). more_from g s first j ≡ Err refusal) (add-zero at) e)
   more_behind (suc count) g zero at m h e = absurd (omega arith)
   more_behind (suc count) g (suc more) at m h e =
       let top = goes_here s at count h in
       let next : at + suc count ≡ at + 1 + count = omega arith in
       more_more s first at (at + 1) (get_or s at 0) (byte_inside s at (omega arith)) refl refl more top
       ∙ ap (with_lowest (get_or s at 0 - 128))
-      (more_behind count g more (at + 1) (omega arith) (goes_next s at count h) (subst (λ (j : ℕ). more_from g s first j ≡ Refused refusal) next e))
+      (more_behind count g more (at + 1) (omega arith) (goes_next s at count h) (subst (λ (j : ℕ). more_from g s first j ≡ Err refusal) next e))
 
-  number_behind : (count g : ℕ) → 4 ≡ g + count → 1 ≤ count → GoesOn s first count → more_from g s first (first + count) ≡ Refused refusal → number_at s first ≡ Refused refusal
+  number_behind : (count g : ℕ) → 4 ≡ g + count → 1 ≤ count → GoesOn s first count → more_from g s first (first + count) ≡ Err refusal → number_at s first ≡ Err refusal
   number_behind zero g m l h e = absurd (omega arith)
   number_behind (suc count) g m l h e =
       let top = goes_here s first count h in
       let next : first + suc count ≡ first + 1 + count = omega arith in
       number_long s first first (first + 1) (get_or s first 0) (byte_inside s first (omega arith)) refl refl top
       ∙ ap (with_lowest (get_or s first 0 - 128))
-      (more_behind count g 3 (first + 1) (omega arith) (goes_next s first count h) (subst (λ (j : ℕ). more_from g s first j ≡ Refused refusal) next e))
+      (more_behind count g 3 (first + 1) (omega arith) (goes_next s first count h) (subst (λ (j : ℕ). more_from g s first j ≡ Err refusal) next e))
 
   -- The refusal is given where its cause is met.
-  pub cause_refused : Cause s first refusal → number_at s first ≡ Refused refusal
+  pub cause_refused : Cause s first refusal → number_at s first ≡ Err refusal
   cause_refused (ended e c) = go c.before c.few c.goes_on c.ends
     where
-      go : (before : ℕ) → before ≤ 4 → GoesOn s first before → length s ≤ first + before → number_at s first ≡ Refused refusal
+      go : (before : ℕ) → before ≤ 4 → GoesOn s first before → length s ≤ first + before → number_at s first ≡ Err refusal
       go zero few on end = rw e (number_ends s first (omega arith))
       go (suc before) few on end =
           number_behind (suc before) (4 - suc before) (omega arith) (omega arith) on (rw e (more_ends (4 - suc before) s first (first + suc before) end))
@@ -89,12 +87,12 @@ module _ (s : List ℕ) (first : ℕ) (refusal : Refusal) where
       let inside : first + 4 < length s = byte_inside s (first + 4) (omega (arith, c.fifth)) in
       number_behind 4 0 refl (omega arith) c.goes_on (rw e (fifth_large s first (first + 4) (first + 4 + 1) (get_or s (first + 4) 0) inside refl refl c.fifth))
 
-  same : {r : NumberRead} {other : Refusal} → r ≡ Refused other → r ≡ Refused refusal → refusal ≡ other
+  same : {r : NumberRead} {other : Refusal} → r ≡ Err other → r ≡ Err refusal → refusal ≡ other
   same e f = cc
 
   module _ (count : ℕ) (some : 1 ≤ count) (few : count ≤ 4) (on : GoesOn s first count) where
     -- what stands behind bytes that go on: the cause, or a byte that is not 0
-    more_next : (g : ℕ) → more_from g s first (first + count) ≡ Refused refusal → Cause s first refusal ⊎ ((first + count < length s) × (get_or s (first + count) 0 ≡ 0 → ⊥))
+    more_next : (g : ℕ) → more_from g s first (first + count) ≡ Err refusal → Cause s first refusal ⊎ ((first + count < length s) × (get_or s (first + count) 0 ≡ 0 → ⊥))
     more_next g e = go (dec_le (length s) (first + count)) (ℕ_discrete (get_or s (first + count) 0) 0)
       where
         go : Dec (length s ≤ first + count) → Dec (get_or s (first + count) 0 ≡ 0) → Cause s first refusal ⊎ ((first + count < length s) × (get_or s (first + count) 0 ≡ 0 → ⊥))
@@ -106,7 +104,7 @@ module _ (s : List ℕ) (first : ℕ) (refusal : Refusal) where
             (record { before = count; some = some; few = few; goes_on = on; inside = inside; last = z }))
         go (no end) (no z) = inr (omega arith, z)
 
-  more_cause : (g count : ℕ) → 4 ≡ g + count → 1 ≤ count → GoesOn s first count → more_from g s first (first + count) ≡ Refused refusal → Cause s first refusal
+  more_cause : (g count : ℕ) → 4 ≡ g + count → 1 ≤ count → GoesOn s first count → more_from g s first (first + count) ≡ Err refusal → Cause s first refusal
   more_cause zero count m some on e =
       ⊎_elim (λ c. c)
       (λ n. elim (dec_le 16 (get_or s (first + count) 0)) [
@@ -125,12 +123,12 @@ module _ (s : List ℕ) (first : ℕ) (refusal : Refusal) where
             let top : 128 ≤ get_or s (first + count) 0 = omega arith in
             let next : first + count + 1 ≡ first + suc count = omega arith in
             let later = lowest_refused _ _ refusal (sym (more_more s first (first + count) (first + count + 1) (get_or s (first + count) 0) n.0 refl refl g top) ∙ e) in
-            more_cause g (suc count) (omega arith) (omega arith) (goes_further s first count on top) (subst (λ (j : ℕ). more_from g s first j ≡ Refused refusal) next later)
+            more_cause g (suc count) (omega arith) (omega arith) (goes_further s first count on top) (subst (λ (j : ℕ). more_from g s first j ≡ Err refusal) next later)
       ])
       (more_next count some (omega arith) on (suc g) e)
 
   -- Where no number stands, the refusal names the cause that is met.
-  pub number_cause : number_at s first ≡ Refused refusal → Cause s first refusal
+  pub number_cause : number_at s first ≡ Err refusal → Cause s first refusal
   number_cause e = go (dec_le (length s) first) (dec_lt (get_or s first 0) 128)
     where
       go : Dec (length s ≤ first) → Dec (get_or s first 0 < 128) → Cause s first refusal

@@ -8,24 +8,23 @@ use native.Mathlib.Omega.{arith}
 use native.Mathlib.Nat.{mul-add, mul_assoc, mul-le-mul, mul-le-mul_left, one-le-pow, pow-succ'}
 use lib.ListN.{length, get_or}
 use Rattle.answers.specs.declared.Refusal.TheVariants.{TableEnds, PaddedNumber, LargeNumber}
-use Rattle.numbers.specs.declared.NumberRead.{NumberRead}
-use Rattle.numbers.specs.declared.NumberRead.TheVariants.{Number, Refused}
-use Rattle.numbers.specs.Read.{with_lowest, number, more_from, more_ends, more_padded, more_last, more_more, fifth_large, fifth_last}
+use Rattle.std.specs.Prelude.{Ok, Err}
+use Rattle.numbers.specs.Read.{NumberRead, with_lowest, number, more_from, more_ends, more_padded, more_last, more_more, fifth_large, fifth_last}
 
 -- a number whose lowest groups gave `value` and whose others were read: a one of these counts `unit`
 abbrev joined : ℕ → ℕ → NumberRead → NumberRead
-joined value unit (Number n next) = Number (value + unit * n) next
-joined value unit (Refused refusal) = Refused refusal
+joined value unit (Ok (n, next)) = Ok (value + unit * n, next)
+joined value unit (Err refusal) = Err refusal
 
 joined_first : (low : ℕ) (r : NumberRead) → joined low 128 r ≡ with_lowest low r
-joined_first low (Number n next) = refl
-joined_first low (Refused refusal) = refl
+joined_first low (Ok (n, next)) = refl
+joined_first low (Err refusal) = refl
 
 -- one group more
 joined_below : (value unit group : ℕ) (r : NumberRead) → joined value unit (with_lowest group r) ≡ joined (value + unit * group) (unit * 128) r
-joined_below value unit group (Number n next) =
-    ap (λ (m : ℕ). Number m next) (rw (mul-add unit group (128 * n), ← mul_assoc unit 128 n) (omega arith))
-joined_below value unit group (Refused refusal) = refl
+joined_below value unit group (Ok (n, next)) =
+    ap (λ (m : ℕ). Ok (m, next)) (rw (mul-add unit group (128 * n), ← mul_assoc unit 128 n) (omega arith))
+joined_below value unit group (Err refusal) = refl
 
 -- what the definition reads of a number whose first byte gave `low`
 abbrev pub whole : List ℕ → ℕ → ℕ → NumberRead
@@ -63,7 +62,7 @@ module _ (s : List ℕ) (first low : ℕ) where
             let counts : unit * 128 * 128 ^ left ≡ 268435456 = mul_assoc unit 128 (128 ^ left) ∙ ap (λ (n : ℕ). unit * n) (sym (pow-succ' 128 left)) ∙ e in
             inr (record { later = left; counts = counts; few = omega (arith, mul-le-mul_left (unit * 128) (one-le-pow left 128 (omega arith))); rest = r })
 
-    pub table_ends : length s ≤ at → Refused (TableEnds (length s)) ≡ whole s first low
+    pub table_ends : length s ≤ at → Err (TableEnds (length s)) ≡ whole s first low
     table_ends h = ap (joined value unit) (sym (more_ends g.left s first at h)) ∙ g.rest
 
     -- a group on top of the value fits 32 bits
@@ -76,10 +75,10 @@ module _ (s : List ℕ) (first low : ℕ) where
         which
 
     module _ (byte : ℕ) (inside : at < length s) (stands : byte ≡ get_or s at 0) where
-      pub byte_padded : byte ≡ 0 → Refused (PaddedNumber first) ≡ whole s first low
+      pub byte_padded : byte ≡ 0 → Err (PaddedNumber first) ≡ whole s first low
       byte_padded h = ap (joined value unit) (sym (more_padded s first at (at + 1) byte inside stands refl g.left h)) ∙ g.rest
 
-      pub fifth_too_large : unit ≡ 268435456 → 16 ≤ byte → Refused (LargeNumber first) ≡ whole s first low
+      pub fifth_too_large : unit ≡ 268435456 → 16 ≤ byte → Err (LargeNumber first) ≡ whole s first low
       fifth_too_large full h =
           ⊎_elim
           (λ (f : Fifth). ap (joined value unit) (sym (fifth_large s first at (at + 1) byte inside stands refl h)) ∙ f.rest)

@@ -1,20 +1,17 @@
 -- The blocks to start from, state by state: each shares the block of the first state that may share it, or gets the next number.
-use Prim.Native.Nat.{ℕ, zero, suc, ◌+◌, ◌≤◌, ◌<◌}
+use Prim.Native.Nat.{ℕ, ◌+◌, ◌≤◌, ◌<◌}
 use mathlib.Core.List.{List}
-use mathlib.Core.Logic.{◌↔◌, ◌≢◌}
+use mathlib.Core.Logic.{◌↔◌}
 use mathlib.Core.Path.{◌≡◌, refl, sym, ◌∙◌}
 use native.Mathlib.Decide.{dec_lt}
 use native.Mathlib.Omega.{arith}
 use borrow.Author.Count.{below_more}
 use lib.ListN.{length, get_or, set, length-set}
-use Rattle.theory.specs.Direction.{Direction, backward, forward, direction}
+use Rattle.std.specs.Prelude.{Some, None}
+use Rattle.theory.specs.declared.Direction.{Direction}
+use Rattle.theory.specs.declared.Direction.TheVariants.{Backward as backward, Forward as forward}
 use Rattle.partition.specs.Numbering.{MayShare, Started, FirstAlike}
 use Rattle.partition.proofs.Sharing.{older, newest, sharing_goes_on}
-
--- each number but 0 means forward
-pub alike_forward : (side : ℕ) (finals : List ℕ) (q p : ℕ) → side ≢ 0 → FirstAlike forward finals q p → FirstAlike (direction side) finals q p
-alike_forward zero finals q p h first = absurd (h refl)
-alike_forward (suc side) finals q p h first = first
 
 module _ (d : Direction) (finals : List ℕ) where
   share_self : (p : ℕ) → MayShare d finals p p
@@ -64,10 +61,10 @@ module _ (d : Direction) (finals : List ℕ) where
         used D l (yes h) = let u = so_far.numbered.used D h in (u.0, omega (arith, u.1), older blocks q v fits u.0 u.1 ∙ u.2)
         used D l (no h) = (q, omega arith, newest blocks q v fits ∙ new D l h)
 
-    pub starting_shares : (p : ℕ) → FirstAlike d finals q p → p < q → Started d (q + 1) finals (set blocks q (get_or blocks p 0)) total
-    starting_shares p first l = step (get_or blocks p 0) total (so_far.numbered.below p l) (omega arith) (λ D k h. absurd (h k))
-        (λ r h. (λ e. share_trans r p q ((so_far.shared r p h l).0 e) (first.share l), λ s. (so_far.shared r p h l).1 (share_trans r q p s (share_sym p q (first.share l)))))
+    pub starting_shares : (p : ℕ) → FirstAlike d finals q (Some p) → Started d (q + 1) finals (set blocks q (get_or blocks p 0)) total
+    starting_shares p first = step (get_or blocks p 0) total (so_far.numbered.below p first.0) (omega arith) (λ D k h. absurd (h k))
+        (λ r h. (λ e. share_trans r p q ((so_far.shared r p h first.0).0 e) first.1, λ s. (so_far.shared r p h first.0).1 (share_trans r q p s (share_sym p q first.1))))
 
-    pub starting_new : (p : ℕ) → FirstAlike d finals q p → q ≤ p → Started d (q + 1) finals (set blocks q total) (total + 1)
-    starting_new p first l = step total (total + 1) (omega arith) (omega arith) (λ D k h. omega arith)
-        (λ r h. (λ e. absurd (omega (arith, so_far.numbered.below r h)), λ s. absurd (first.differ r (omega arith) s)))
+    pub starting_new : FirstAlike d finals q None → Started d (q + 1) finals (set blocks q total) (total + 1)
+    starting_new none = step total (total + 1) (omega arith) (omega arith) (λ D k h. omega arith)
+        (λ r h. (λ e. absurd (omega (arith, so_far.numbered.below r h)), λ s. absurd (none r h s)))

@@ -9,6 +9,13 @@ pub record Filling {A : Type 0} (z : A) (P : ℕ → A → Type 0) (number : ℕ
   pub long : length list ≡ 256
   pub filled : (k : ℕ) → k < i → P k (get_or list k z)
 
+-- one more place
+pub filled_more : {A : Type 0} (z : A) (P : ℕ → A → Type 0) (list : List A) (i : ℕ) → ((k : ℕ) → k < i → P k (get_or list k z)) → i < length list → (x : A) → P i x
+    → (k : ℕ) → k < i + 1 → P k (get_or (set list i x) k z)
+filled_more z P list i so_far inside x h = below_more _ i
+    (λ k l. subst (P k) (sym (get_or-set_other list i k x z (λ e. omega arith))) (so_far k l))
+    (subst (P i) (sym (get_or-set_same list i x z inside)) h)
+
 module _ {A : Type 0} (z : A) (P : ℕ → A → Type 0) (number : ℕ) where
   pub filling_starts : Filling z P number (replicate 256 z) 0
   filling_starts = record { some = omega arith; long = length-replicate {A = A} 256 z; filled = λ k l. absurd (omega arith) }
@@ -17,9 +24,7 @@ module _ {A : Type 0} (z : A) (P : ℕ → A → Type 0) (number : ℕ) where
   filling_goes_on list i so_far more few x h = record {
     some = omega arith;
     long = subst (λ (n : ℕ). n ≡ 256) (sym (length-set list i x)) so_far.long;
-    filled = below_more _ i
-        (λ k l. subst (P k) (sym (get_or-set_other list i k x z (λ e. omega arith))) (so_far.filled k l))
-        (subst (P i) (sym (get_or-set_same list i x z (omega (arith, so_far.long)))) h);
+    filled = filled_more z P list i so_far.filled (omega (arith, so_far.long)) x h;
   }
 
   pub filling_ends : (list : List A) (i : ℕ) → Filling z P number list i → number ≤ i → (length list ≡ 256) × ((k : ℕ) → k < number → P k (get_or list k z))

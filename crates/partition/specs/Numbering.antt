@@ -1,7 +1,8 @@
 -- The blocks to start from, and the numbers to end with.
-use Rattle.std.specs.Prelude.{ℕ, ◌≤◌, ◌<◌, List, ◌↔◌, ◌≡◌, length, get_or}
+use Rattle.std.specs.Prelude.{ℕ, ◌<◌, Option, MatchOption, List, ◌↔◌, ◌≡◌, length, get_or}
 use Rattle.theory.specs.Blocks.{block_of, FirstUse, block_count}
-use Rattle.theory.specs.Direction.{Direction, backward, forward}
+use Rattle.theory.specs.declared.Direction.{Direction}
+use Rattle.theory.specs.declared.Direction.TheVariants.{Backward as backward, Forward as forward}
 
 -- backward any two states may share a block; forward those with equal final codes
 abbrev pub MayShare : Direction → List ℕ → ℕ → ℕ → Type 0
@@ -19,11 +20,11 @@ pub record Started (d : Direction) (n : ℕ) (finals blocks : List ℕ) (total :
   pub numbered : Numbered n blocks total
   pub shared : (p q : ℕ) → p < n → q < n → (get_or blocks p 0 ≡ get_or blocks q 0) ↔ MayShare d finals p q
 
--- the first state below q that may share q's block, or q
-pub record FirstAlike (d : Direction) (finals : List ℕ) (q p : ℕ) : Type 0 where
-  pub some : p ≤ q
-  pub share : p < q → MayShare d finals p q
-  pub differ : (k : ℕ) → k < p → MayShare d finals k q → ⊥
+-- the first state below q that may share q's block, if there is one
+abbrev pub FirstAlike : Direction → List ℕ → ℕ → Option ℕ → Type 0
+FirstAlike d finals q found = MatchOption found
+    ((k : ℕ) → k < q → MayShare d finals k q → ⊥)
+    (λ p. (p < q) × MayShare d finals p q × ((k : ℕ) → k < p → MayShare d finals k q → ⊥))
 
 -- the same blocks, numbered by first use
 pub record FirstUsed (n : ℕ) (before after : List ℕ) (total : ℕ) : Type 0 where

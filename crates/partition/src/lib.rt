@@ -2,8 +2,10 @@
 // at, and new numbers for its parts.
 //
 // The numbers of states and of blocks both begin at 0, so a list by state and a list by block look alike. Each is a type of its own here,
-// with a private field: outside this crate only a state finds a block in the one, and only a block finds a state in the other. Inside it
-// the bare lists are lent, since a list by value is copied at each call.
+// with a private field: outside this crate only a state finds a block in the one, and only a block finds a state in the other.
+//
+// Arrays by state have 256 places, whatever the number of states: a state is a byte, so it finds its place with no bound to prove. A slice
+// of the first `states` places would ask for one at each step.
 
 #![tactic(auto)]
 
@@ -34,41 +36,20 @@ pub struct Partition {
     pub number: usize,
 }
 
-fn wide(byte: u8) -> usize
-    ensures { (result ≡ byte) × (result < 256) }
-{
-    byte as usize
-}
-
 impl BlockList {
-    pub fn of(self, q: State) -> Block
-        ensures { result.0 ≡ get_or self.list q.0 0 }
+    pub fn of(&self, q: State) -> Block
+        ensures { result.0 ≡ get_or self.now.list q.0 0 }
     {
-        let i = wide(q.0);
-        Block(self.list[i])
-    }
-
-    // The number of each state's block, as a digit of a key.
-    pub fn digits(self) -> [u32; 256]
-        ensures { (result ≡ self.list) × ((q : ℕ) → get_or result q 0 < 256) }
-    {
-        let list = self.list;
-        let mut digits = [0u32; 256];
-        let mut q = 0;
-        while q < 256 {
-            digits[q] = wide(list[q]) as u32;
-            q += 1;
-        }
-        digits
+        Block(self.list[q.0 as usize])
     }
 
     // The blocks of the first `states` states, one byte each, to the front of the room.
-    pub fn put(self, states: usize, room: &mut [u8])
-        requires { (states ≤ 256) × (states ≤ length room.old) }
-        ensures { room.new ≡ take states self.list ++ drop states room.old }
+    pub fn put(&self, states: usize, room: &mut [u8])
+        requires few { states ≤ 256 }
+        requires room { states ≤ length room.old }
+        ensures { room.new ≡ take states self.now.list ++ drop states room.old }
     {
-        let list = self.list;
-        room[..states].copy_from_slice(&list[..states]);
+        room[..states].copy_from_slice(&self.list[..states]);
     }
 }
 
@@ -77,38 +58,30 @@ impl NameList {
     pub fn new() -> NameList
         ensures { result.list ≡ replicate 256 0 }
     {
-        NameList { list: [0u8; 256] }
+        NameList { list: [0; 256] }
     }
 
-    pub fn of(self, block: Block) -> State
-        ensures { result.0 ≡ get_or self.list block.0 0 }
+    pub fn of(&self, block: Block) -> State
+        ensures { result.0 ≡ get_or self.now.list block.0 0 }
     {
-        let i = wide(block.0);
-        State(self.list[i])
+        State(self.list[block.0 as usize])
     }
 
-    pub fn with(self, block: Block, q: State) -> NameList
-        ensures { result.list ≡ set self.list block.0 q.0 }
+    pub fn set(&mut self, block: Block, q: State)
+        ensures { self.new.list ≡ set self.old.list block.0 q.0 }
     {
-        let mut next = self;
-        let i = wide(block.0);
-        next.list[i] = q.0;
-        next
+        self.list[block.0 as usize] = q.0;
     }
 
     // Whether each state is the one that stands for its block.
-    pub fn named(self, blocks: BlockList) -> [bool; 256]
-        ensures { (length result ≡ 256) × ((q : ℕ) → q < 256 → get_or result q false ≡ eqb (get_or self.list (get_or blocks.list q 0) 0) q) }
+    pub fn named(&self, blocks: &BlockList) -> [bool; 256]
+        ensures { (q : ℕ) → q < 256 → get_or result q false ≡ eqb (get_or self.now.list (get_or blocks.now.list q 0) 0) q }
     {
-        let names = self.list;
-        let list = blocks.list;
         let mut named = [false; 256];
-        let mut q = 0;
-        while q < 256 {
-            let block = wide(list[q]);
-            let name = wide(names[block]);
-            named[q] = name == q;
-            q += 1;
+        for q in 0..256 {
+            let block = blocks.list[q];
+            let name = self.list[block as usize];
+            named[q] = name as usize == q;
         }
         named
     }

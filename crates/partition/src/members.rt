@@ -1,139 +1,132 @@
 // The members of a block that a step looks at: the dirty ones, and one clean one, which stands for all clean ones.
 
-ghost use Rattle.std.specs.Prelude.{◌≡◌, true, false, ℕ, ◌≤◌, ◌<◌, length, get_or};
+ghost use Rattle.std.specs.Prelude.{◌≡◌, true, false, ℕ, ◌≤◌, ◌<◌, IsTrue, ◌↔◌, MatchOption, length, get_or};
 ghost use Rattle.partition.specs.Members.{flag, dirty_count, Members, DirtyMembers, CleanMember};
 
-use crate::{BlockList, wide};
+use crate::BlockList;
 use states::{Block, State};
 
-// How many members are found, and the place of the clean one among them; 256 if there is none.
-#[derive(Clone, Copy)]
+// The members found, how many they are, and the place of the clean one among them, if there is one.
+#[derive(Drop)]
 pub struct Gathered {
+    pub found: [u8; 256],
     pub count: usize,
-    pub clean: usize,
+    pub clean: Option<usize>,
 }
 
-// The first dirty state; the number of states if there is none.
-pub fn first_dirty(states: usize, dirty: &[bool; 256]) -> usize
-    requires { (states ≤ 256) × (length dirty.now ≡ 256) }
-    ensures { (result ≤ states) × (result < states → flag dirty.now result ≡ true) × ((q : ℕ) → q < result → flag dirty.now q ≡ false) }
+// The first dirty state. (A loop and no chain with `position`, for the reason at `count_dirty`.)
+pub fn first_dirty(states: usize, dirty: &[bool; 256]) -> Option<State>
+    requires { states ≤ 256 }
+    ensures { MatchOption result
+        ((q : ℕ) → q < states → flag dirty.now q ≡ false)
+        (λ first. (first.0 < states) × (flag dirty.now first.0 ≡ true) × ((q : ℕ) → q < first.0 → flag dirty.now q ≡ false)) }
 {
-    let mut q = 0;
-    while q < states {
+    for q in 0..states {
         if dirty[q] {
-            return q;
+            return Some(State(q as u8));
         }
-        q += 1;
     }
-    q
+    None
 }
 
 // The members of the first dirty state's block.
-pub fn gather(
-    first: State,
-    states: usize,
-    blocks: BlockList,
-    dirty: &[bool; 256],
-    found: &mut [u8; 256],
-) -> Gathered
-    requires { (states ≤ 256) × (first.0 < states) × ((q : ℕ) → q < first.0 → flag dirty.now q ≡ false) × (length dirty.now ≡ 256) × (length found.old ≡ 256) }
-    ensures { Members (get_or blocks.list first.0 0) states blocks.list dirty.now found.new result.count result.clean × (length found.new ≡ 256) }
+pub fn gather(first: State, states: usize, blocks: &BlockList, dirty: &[bool; 256]) -> Gathered
+    requires few { states ≤ 256 }
+    requires known { first.0 < states }
+    requires clean_before { (q : ℕ) → q < first.0 → flag dirty.now q ≡ false }
+    ensures { Members (get_or blocks.now.list first.0 0) states blocks.now.list dirty.now result.found result.count result.clean }
 {
-    let list = blocks.list;
-    let block = Block(list[wide(first.0)]);
-    let count = gather_dirty(block, first, states, &list, dirty, found);
-    let p = near_clean(block, first, states, &list, dirty);
-    if p == states {
-        return Gathered { count, clean: 256 };
+    let block = blocks.of(first);
+    let mut gathered = gather_dirty(block, first, states, blocks, dirty);
+    if let Some(q) = near_clean(block, first, states, blocks, dirty) {
+        gathered.clean = Some(gathered.count);
+        gathered.found[gathered.count] = q.0;
+        gathered.count += 1;
     }
-    found[count] = p as u8;
-    Gathered {
-        count: count + 1,
-        clean: count,
-    }
+    gathered
 }
 
-// The dirty members of a block; none is below `first`. It ends as soon as no dirty state is left.
+// The dirty members of a block; no dirty state is below `first`. It ends as soon as no dirty state is left.
 fn gather_dirty(
     block: Block,
     first: State,
     states: usize,
-    list: &[u8; 256],
+    blocks: &BlockList,
     dirty: &[bool; 256],
-    found: &mut [u8; 256],
-) -> usize
-    requires { (states ≤ 256) × (first.0 < states) × ((q : ℕ) → q < first.0 → flag dirty.now q ≡ false) × (length list.now ≡ 256) × (length dirty.now ≡ 256) × (length found.old ≡ 256) }
-    ensures { DirtyMembers block.0 states list.now dirty.now found.new result × (length found.new ≡ 256) }
+) -> Gathered
+    requires few { states ≤ 256 }
+    requires known { first.0 < states }
+    requires clean_before { (q : ℕ) → q < first.0 → flag dirty.now q ≡ false }
+    ensures dirty_ones { DirtyMembers block.0 states blocks.now.list dirty.now result.found result.count }
+    ensures no_clean_one { result.clean ≡ None }
 {
-    let mut q = wide(first.0);
-    let mut left = count_dirty(q, states, dirty);
+    let mut left = count_dirty(first.0 as usize, states, dirty);
+    let mut found = [0; 256];
     let mut count = 0;
-    while 0 < left {
+    for q in first.0 as usize..states {
+        if left == 0 {
+            break;
+        }
         if dirty[q] {
             left -= 1;
-            if list[q] == block.0 {
+            if blocks.list[q] == block.0 {
                 found[count] = q as u8;
                 count += 1;
             }
         }
-        q += 1;
     }
-    count
+    Gathered {
+        found,
+        count,
+        clean: None,
+    }
 }
 
-// How many states are dirty; none is below `first`.
+// How many states are dirty; no dirty state is below `first`. (Tried as a chain with `filter` and `count`: slower, for the blocks of a
+// chain of 250 levels 104 instead of 66 microseconds backward and 138 instead of 109 forward.)
 fn count_dirty(first: usize, states: usize, dirty: &[bool; 256]) -> usize
-    requires { (states ≤ 256) × (first ≤ states) × ((q : ℕ) → q < first → flag dirty.now q ≡ false) × (length dirty.now ≡ 256) }
+    requires few { states ≤ 256 }
+    requires known { first ≤ states }
+    requires clean_before { (q : ℕ) → q < first → flag dirty.now q ≡ false }
     ensures { result ≡ dirty_count dirty.now states }
 {
     let mut count = 0;
-    let mut q = first;
-    while q < states {
+    for q in first..states {
         if dirty[q] {
             count += 1;
         }
-        q += 1;
     }
     count
 }
 
-// A clean member of a block, the nearest to a state of it; the number of states if there is none.
+// A clean member of a block, the nearest to a state of it.
 fn near_clean(
     block: Block,
     first: State,
     states: usize,
-    list: &[u8; 256],
+    blocks: &BlockList,
     dirty: &[bool; 256],
-) -> usize
-    requires { (states ≤ 256) × (first.0 < states) × (length list.now ≡ 256) × (length dirty.now ≡ 256) }
-    ensures { CleanMember block.0 states list.now dirty.now result }
+) -> Option<State>
+    requires few { states ≤ 256 }
+    requires known { first.0 < states }
+    ensures { CleanMember block.0 states blocks.now.list dirty.now result }
 {
-    let middle = wide(first.0);
-    let mut distance = 0;
-    while distance < states {
-        if is_clean(middle + distance, block, states, list, dirty) {
-            return middle + distance;
+    let middle = first.0 as usize;
+    for distance in 0..states {
+        if is_clean(middle + distance, block, states, blocks, dirty) {
+            return Some(State((middle + distance) as u8));
         }
-        if distance <= middle {
-            if is_clean(middle - distance, block, states, list, dirty) {
-                return middle - distance;
-            }
+        if distance <= middle && is_clean(middle - distance, block, states, blocks, dirty) {
+            return Some(State((middle - distance) as u8));
         }
-        distance += 1;
     }
-    states
+    None
 }
 
 // Whether q is a state, a member of the block, and clean.
-fn is_clean(q: usize, block: Block, states: usize, list: &[u8; 256], dirty: &[bool; 256]) -> bool
-    requires { (states ≤ 256) × (length list.now ≡ 256) × (length dirty.now ≡ 256) }
-    ensures { (result ≡ true → (q < states) × (get_or list.now q 0 ≡ block.0) × (flag dirty.now q ≡ false)) × (q < states → get_or list.now q 0 ≡ block.0 → flag dirty.now q ≡ false → result ≡ true) }
+fn is_clean(q: usize, block: Block, states: usize, blocks: &BlockList, dirty: &[bool; 256]) -> bool
+    requires { states ≤ 256 }
+    ensures { IsTrue result ↔ ((q < states) × (get_or blocks.now.list q 0 ≡ block.0) × (flag dirty.now q ≡ false)) }
 {
-    if states <= q {
-        return false;
-    }
-    if dirty[q] {
-        return false;
-    }
-    list[q] == block.0
+    q < states && !dirty[q] && blocks.list[q] == block.0
 }

@@ -1,73 +1,74 @@
 // The blocks to start from, and the numbers to end with.
 
-ghost use Rattle.std.specs.Prelude.{◌≡◌, ◌≤◌, ◌<◌, length};
-ghost use Rattle.theory.specs.Direction.{direction as side_of};
+ghost use Rattle.std.specs.Prelude.{◌≤◌, ◌<◌};
+ghost use Rattle.theory.specs.declared.Direction.TheVariants.{Forward as forward};
 ghost use Rattle.partition.specs.Numbering.{Started, FirstAlike, FirstUsed};
 
-use crate::{BlockList, Partition, wide};
+use crate::{BlockList, Partition};
+use states::State;
+use theory::Direction;
 
 // Backward one block, forward a block for each final weight.
-pub fn start(direction: u32, states: usize, finals: &[u32; 256]) -> Partition
-    requires { (states ≤ 256) × (length finals.now ≡ 256) }
-    ensures { Started (side_of direction) states finals.now result.blocks.list result.number }
+pub fn start(direction: Direction, states: usize, finals: &[u32; 256]) -> Partition
+    requires { states ≤ 256 }
+    ensures { Started direction states finals.now result.blocks.list result.number }
 {
-    let mut list = [0u8; 256];
+    let mut list = [0; 256];
     let mut number = 0;
-    let mut q = 0;
-    while q < states {
-        let p = first_alike(direction, q, finals);
-        if p < q {
-            list[q] = list[p];
-        } else {
-            list[q] = number as u8;
-            number += 1;
+    for q in 0..states {
+        match first_alike(direction, q, finals) {
+            Some(p) => list[q] = list[p],
+            None => {
+                list[q] = number as u8;
+                number += 1;
+            }
         }
-        q += 1;
     }
     let blocks = BlockList { list };
     Partition { blocks, number }
 }
 
-// The first state that may share q's block.
-fn first_alike(direction: u32, q: usize, finals: &[u32; 256]) -> usize
-    requires { (q < 256) × (length finals.now ≡ 256) }
-    ensures { FirstAlike (side_of direction) finals.now q result }
+// The first of the states before q that may share its block, if there is one.
+fn first_alike(direction: Direction, q: usize, finals: &[u32; 256]) -> Option<usize>
+    requires { q < 256 }
+    ensures { FirstAlike direction finals.now q result }
 {
-    if direction == 0 {
-        return 0;
+    match direction {
+        Direction::Backward => (0 < q).then_some(0),
+        Direction::Forward => first_equal(q, finals),
     }
-    let mut p = 0;
-    while p < q {
-        if finals[p] == finals[q] {
-            return p;
-        }
-        p += 1;
-    }
-    p
 }
 
-// The same blocks, numbered by first use. The first member met stands for its block; a name that belongs to another block is none.
-pub fn by_first_use(states: usize, found: BlockList) -> Partition
-    requires { states ≤ 256 }
-    ensures { FirstUsed states found.list result.blocks.list result.number }
+// The first of the states before q with its final weight, if there is one.
+fn first_equal(q: usize, finals: &[u32; 256]) -> Option<usize>
+    requires { q < 256 }
+    ensures { FirstAlike forward finals.now q result }
 {
-    let before = found.list;
-    let mut list = [0u8; 256];
-    let mut names = [0u8; 256];
+    for p in 0..q {
+        if finals[p] == finals[q] {
+            return Some(p);
+        }
+    }
+    None
+}
+
+// The same blocks, numbered by first use. The first member met stands for its block.
+pub fn by_first_use(states: usize, found: &BlockList) -> Partition
+    requires { states ≤ 256 }
+    ensures { FirstUsed states found.now.list result.blocks.list result.number }
+{
+    let mut list = [0; 256];
+    let mut names: [Option<State>; 256] = [None; 256];
     let mut number = 0;
-    let mut q = 0;
-    while q < states {
-        let block = wide(before[q]);
-        let first = wide(names[block]);
-        let same = wide(before[first]);
-        if first < q && same == block {
-            list[q] = list[first];
+    for q in 0..states {
+        let block = found.list[q] as usize;
+        if let Some(first) = names[block] {
+            list[q] = list[first.0 as usize];
         } else {
-            names[block] = q as u8;
+            names[block] = Some(State(q as u8));
             list[q] = number as u8;
             number += 1;
         }
-        q += 1;
     }
     let blocks = BlockList { list };
     Partition { blocks, number }

@@ -1,37 +1,43 @@
 // New numbers for the parts of a block: one part keeps the block's number, the others get fresh ones.
 
-ghost use Rattle.std.specs.Prelude.{◌≡◌, ℕ, ◌+◌, ◌≤◌, ◌<◌, length, get_or};
+ghost use Rattle.std.specs.Prelude.{◌≡◌, ℕ, ◌+◌, ◌≤◌, ◌<◌, IfSome, length, get_or};
 ghost use Rattle.partition.specs.Parts.{number_of, Renumbered, Fits};
 
-use crate::{BlockList, wide};
+use crate::BlockList;
 use states::Block;
+use std::cmp::Ordering;
 
 // The part that keeps the block's number: that of the clean members, or else the largest, so that few states get a new one.
-pub fn keeper(many: usize, clean: usize, parts: usize, part: &[u8; 256]) -> usize
-    requires { (many ≤ 256) × (0 < many) × (parts ≤ 256) × (length part.now ≡ 256) × ((i : ℕ) → i < many → get_or part.now i 0 < parts) × (clean < 256 → clean < many) }
-    ensures { (result < parts) × (clean < 256 → result ≡ get_or part.now clean 0) }
+pub fn keeper(count: usize, clean: Option<usize>, parts: usize, part: &[u8; 256]) -> usize
+    requires some { 0 < count }
+    requires few { count ≤ 256 }
+    requires parts_few { parts ≤ 256 }
+    requires within { (i : ℕ) → i < count → get_or part.now i 0 < parts }
+    requires clean_place { IfSome clean (λ place. place < count) }
+    ensures known { result < parts }
+    ensures of_clean { IfSome clean (λ place. result ≡ get_or part.now place 0) }
 {
-    if clean < 256 {
-        return wide(part[clean]);
+    match clean {
+        Some(place) => part[place] as usize,
+        None => largest(&part[..count], parts),
     }
-    largest(many, parts, part)
 }
 
-fn largest(many: usize, parts: usize, part: &[u8; 256]) -> usize
-    requires { (many ≤ 256) × (0 < parts) × (parts ≤ 256) × (length part.now ≡ 256) × ((i : ℕ) → i < many → get_or part.now i 0 < parts) }
+fn largest(part: &[u8], parts: usize) -> usize
+    requires few { length part.now ≤ 256 }
+    requires some { 0 < parts }
+    requires parts_few { parts ≤ 256 }
+    requires within { (i : ℕ) → i < length part.now → get_or part.now i 0 < parts }
     ensures { result < parts }
 {
     let mut sizes = [0u16; 256];
     let mut best = 0;
-    let mut i = 0;
-    while i < many {
-        let m = wide(part[i]);
-        let size = sizes[m] + 1;
-        sizes[m] = size;
-        if sizes[best] < size {
-            best = m;
+    for m in part {
+        let own = *m as usize;
+        sizes[own] += 1;
+        if sizes[best] < sizes[own] {
+            best = own;
         }
-        i += 1;
     }
     best
 }
@@ -41,37 +47,31 @@ fn number_of(m: usize, keeper: usize, block: Block, total: usize) -> Block
     requires { Fits keeper total m }
     ensures { result.0 ≡ number_of keeper block.0 total m }
 {
-    if m == keeper {
-        return block;
+    match m.cmp(&keeper) {
+        Ordering::Less => Block((total + m) as u8),
+        Ordering::Equal => block,
+        Ordering::Greater => Block((total + m - 1) as u8),
     }
-    if m < keeper {
-        return Block((total + m) as u8);
-    }
-    Block((total + m - 1) as u8)
 }
 
 // Gives the members the numbers of their parts, and clears the dirt of the block.
 pub fn renumber(
-    many: usize,
+    members: &[u8],
+    part: &[u8; 256],
     block: Block,
     total: usize,
     keeper: usize,
-    found: &[u8; 256],
-    part: &[u8; 256],
-    before: BlockList,
+    blocks: &mut BlockList,
     dirty: &mut [bool; 256],
-) -> BlockList
-    requires { (many ≤ 256) × (length found.now ≡ 256) × (length part.now ≡ 256) × (length dirty.old ≡ 256) × ((i : ℕ) → i < many → Fits keeper total (get_or part.now i 0)) × ((i k : ℕ) → i < many → k < many → get_or found.now i 0 ≡ get_or found.now k 0 → get_or part.now i 0 ≡ get_or part.now k 0) }
-    ensures { Renumbered many block.0 total keeper found.now part.now before.list dirty.old result.list dirty.new }
+)
+    requires few { length members.now ≤ 256 }
+    requires fits { (i : ℕ) → i < length members.now → Fits keeper total (get_or part.now i 0) }
+    requires one_part { (i k : ℕ) → i < length members.now → k < length members.now
+        → get_or members.now i 0 ≡ get_or members.now k 0 → get_or part.now i 0 ≡ get_or part.now k 0 }
+    ensures { Renumbered (length members.now) block.0 total keeper members.now part.now blocks.old.list dirty.old blocks.new.list dirty.new }
 {
-    let mut list = before.list;
-    let mut i = 0;
-    while i < many {
-        let p = wide(found[i]);
-        let own = number_of(wide(part[i]), keeper, block, total);
-        list[p] = own.0;
-        dirty[p] = false;
-        i += 1;
+    for (p, m) in members.iter().zip(part) {
+        blocks.list[*p as usize] = number_of(*m as usize, keeper, block, total).0;
+        dirty[*p as usize] = false;
     }
-    BlockList { list }
 }

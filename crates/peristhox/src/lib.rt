@@ -19,8 +19,8 @@ pub extern "C" fn peristhox_check(table: &[u8]) -> u64
 // A read table written again, into the room: done with its length.
 #[unsafe(no_mangle)]
 pub extern "C" fn peristhox_rewrite(table: &[u8], room: &mut [u8]) -> u64
-    ensures { (result ≡ packed (rewritten_answer (table_read table.now) room.old))
-        × (room.new ≡ rewritten_room (table_read table.now) room.old) }
+    ensures answer { result ≡ packed (rewritten_answer (table_read table.now) room.old) }
+    ensures room { room.new ≡ rewritten_room (table_read table.now) room.old }
 {
     answers::pack(calls::rewrite(table, room))
 }
@@ -37,12 +37,10 @@ pub extern "C" fn peristhox_weigh(
     ensures { WeighFace table.now tree.now sheet.old weight.old result sheet.new weight.new }
 {
     let weighing = weigh::weigh(table, tree, sheet);
-    let answer = weighing.answer;
-    let found = weighing.weight;
-    if weighing.given {
-        *weight = found;
+    if let Ok(found) = weighing {
+        *weight = found.weight;
     }
-    answers::pack(answer)
+    answers::pack(weighing.map(|found| found.nodes))
 }
 
 // The coarsest blocks of a table, one byte a state, into the room: done with their number.
@@ -59,8 +57,7 @@ pub extern "C" fn peristhox_collapse(direction: u32, table: &[u8], room: &mut [u
     ensures { CollapseFace direction table.now room.old result room.new }
 {
     let counted = collapse::collapse(direction, table, room);
-    let answer = counted.answer;
-    answers::pack(answer)
+    answers::pack(counted.map(|found| found.length))
 }
 
 // A table shrunk from a side, into the room: done with its length.
@@ -69,6 +66,5 @@ pub extern "C" fn peristhox_shrink(direction: u32, table: &[u8], room: &mut [u8]
     ensures { ShrinkFace direction table.now room.old result room.new }
 {
     let counted = collapse::shrink(direction, table, room);
-    let answer = counted.answer;
-    answers::pack(answer)
+    answers::pack(counted.map(|found| found.length))
 }

@@ -43,15 +43,8 @@ fn show<'a>(rt: &impl Print, first: &'a [u8], second: &'a [u8]) -> io::Result<()
     let code = answer.code;
     let figure = answer.figure;
     let length = piece.len();
-    let total = sum(piece);
-    println!(rt; "code {code} figure {figure} piece {length} sum {total}")
-}
-
-// The bytes summed, modulo 2^32.
-fn sum(piece: &[u8]) -> u64 {
-    let mut total: u32 = 0;
-    for byte in piece {
-        total = total.wrapping_add(u32::from(*byte));
-    }
-    u64::from(total)
+    let sum = piece
+        .iter()
+        .fold(0u32, |sum, byte| sum.wrapping_add(u32::from(*byte)));
+    println!(rt; "code {code} figure {figure} piece {length} sum {sum}")
 }

@@ -1,4 +1,4 @@
--- What is known of the columns of a record that is a proper table, and names for what they hold.
+-- What is known of the columns of a record that is a proper table.
 use Prim.Native.Nat.{ℕ, ◌+◌, ◌*◌, ◌≤◌, ◌<◌, ◌^◌}
 use mathlib.Core.List.{List}
 use mathlib.Core.Path.{◌≡◌, ◌∙◌, subst}
@@ -9,33 +9,17 @@ use Rattle.model.specs.Table.{ProperTransition, Proper}
 use Rattle.tables.specs.Rows.{columns_of, rows_length, each_row}
 use Rattle.tables.specs.Record.{row_at, rows_from, table_of, Holds}
 use Rattle.tables.specs.declared.TableRecord.{TableRecord}
-use Rattle.theory.specs.Arithmetic.{Weight}
-use Rattle.theory.specs.Direction.{Direction}
+use Rattle.theory.specs.Arithmetic.{arithmetic_number, Weight}
+use Rattle.theory.specs.declared.Direction.{Direction}
 use Rattle.model.proofs.Each.{each_at}
 use Rattle.theory.specs.Profile.{Use}
 use Rattle.theory.specs.Uses.{uses}
-use Rattle.profiles.specs.Entries.{Entry}
 use Rattle.tables.specs.Rows.{Row}
-use Rattle.uses.specs.Numbers.{uses_of, Indexed}
 use Rattle.uses.specs.Theory.{rank_at, Ranked}
-use Rattle.dependents.specs.Marks.{Depends}
-use Rattle.refine.specs.Sides.{profiles}
 
 -- the theory's uses of a record's table
-abbrev pub uses_in : (t : TableRecord) → Direction → List (Use (Weight t.arithmetic))
-uses_in t d = uses t.arithmetic d (rows_from (columns_of t) 0 t.count)
-
--- the lists are the index of a record's uses
-abbrev pub IndexOf : TableRecord → Direction → List ℕ → List ℕ → Type 0
-IndexOf t d = Indexed (uses_of d t.count t.ranks t.symbol t.children t.target)
-
--- the entries of each state under given blocks
-abbrev pub profiles_of : TableRecord → Direction → List ℕ → List ℕ → (ℕ → ℕ) → ℕ → List Entry
-profiles_of t d = profiles d t.ranks t.symbol t.children t.target t.code
-
--- which states depend on a state, by the index of the other side
-abbrev pub DependsIn : TableRecord → Direction → List ℕ → List ℕ → ℕ → ℕ → Type 0
-DependsIn t d = Depends d t.ranks t.symbol t.children t.target
+abbrev pub uses_in : (t : TableRecord) → Direction → List (Use (Weight (arithmetic_number t.arithmetic)))
+uses_in t d = uses (arithmetic_number t.arithmetic) d (rows_from (columns_of t) 0 t.count)
 
 module _ {t : TableRecord} (holds : Holds t (table_of t)) (proper : Proper (table_of t)) where
   pub count_few : t.count ≤ 4000

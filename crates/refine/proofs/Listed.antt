@@ -8,15 +8,17 @@ use native.Mathlib.Omega.{arith}
 use lib.ListN.{length, get_or, take}
 use lib.Seq.{get_or-take, get_or-drop, slice}
 use Rattle.model.specs.Table.{Each}
-use Rattle.theory.specs.Direction.{Direction, backward, forward}
+use Rattle.theory.specs.declared.Direction.{Direction}
+use Rattle.theory.specs.declared.Direction.TheVariants.{Backward as backward, Forward as forward}
 use Rattle.model.proofs.Each.{each_at}
 use Rattle.uses.specs.Numbers.{limit, numbers_of, chosen, is_use_of, total_below, start_of, Indexed}
 use Rattle.uses.specs.Places.{each_number, number_met, each_chosen, met_chosen}
 use Rattle.uses.specs.Theory.{row_for}
 use Rattle.tables.specs.Rows.{Row}
-use Rattle.uses.specs.Lists.{start, listed, ListedUses}
+use Rattle.uses.specs.Lists.{start, listed}
+use Rattle.uses.specs.Tables.{IndexOf, ListsUses}
+use Rattle.uses.specs.declared.Uses.{Uses}
 use Rattle.tables.specs.declared.TableRecord.{TableRecord}
-use Rattle.refine.proofs.Known.{IndexOf}
 
 -- where a member stands
 met_at : (us : List ℕ) {u : ℕ} → Memᴰ u us → (m : ℕ) × (m < length us) × (get_or us m 0 ≡ u)
@@ -64,16 +66,16 @@ module _ {lists : ℕ → List ℕ} {starts list : List ℕ} (index : Indexed li
       subst P (sym (ap (λ (us : List ℕ). get_or us m 0) (index.there r.0 r.1)) ∙ slice_at (start_of lists r.0) (start_of lists (suc r.0)) m list (omega (arith, r.3)) ∙ ap (λ (x : ℕ). get_or list x 0) place)
       (each_at P (lists r.0) m 0 (h r.0 r.1) short)
 
-module _ (t : TableRecord) (d : Direction) {starts list : List ℕ} (index : IndexOf t d starts list) where
+module _ (t : TableRecord) (d : Direction) (side : Uses) (index : IndexOf d t side) where
   -- a use of p is listed in p's region
   pub use_listed : (p u : ℕ) → p < 256 → u < limit d t.count → is_use_of d t.ranks t.symbol t.children t.target p u ≡ true
-      → (i : ℕ) × (start starts p ≤ i) × (i < start starts (suc p)) × (get_or list i 0 ≡ u)
+      → (i : ℕ) × (start side.starts p ≤ i) × (i < start side.starts (suc p)) × (get_or side.list i 0 ≡ u)
   use_listed p u l h e =
       let own = is_use_of d t.ranks t.symbol t.children t.target p in
       let r = met_at (chosen own (numbers_of d t.count)) (met_chosen own (numbers_of d t.count) (number_met d t.count u h) e) in
       in_region index p u r.0 l r.1 r.2
 
-  pub uses_listed : ((j : ℕ) → j < t.count → Row t.ranks t.symbol j) → ListedUses d t.ranks t.symbol starts list
+  pub uses_listed : ((j : ℕ) → j < t.count → Row t.ranks t.symbol j) → ListsUses d t side
   uses_listed row = record {
     ascend = λ p l. omega (arith, index.begin p (omega arith), index.begin (suc p) l, ends index p);
     few = omega (arith, index.begin 256 (omega arith), index.few);

@@ -8,7 +8,9 @@ use native.Mathlib.Decide.{ℕ_discrete, dec_lt}
 use native.Mathlib.Omega.{arith}
 use borrow.Author.Tests.{eq-eqb, ne_eqb, lt-ltb, le-ltb}
 use lib.Dec.{eqb}
-use lib.ListN.{get_or}
+use lib.ListN.{length, get_or, take}
+use lib.Seq.{get_or-take, length-take-le}
+use Rattle.std.specs.Prelude.{Option, Some, None, IfSome}
 use Rattle.theory.specs.Blocks.{block_of, blocks_few}
 use Rattle.profiles.specs.Entries.{Entry}
 use Rattle.profiles.specs.Sums.{sum_at}
@@ -16,7 +18,7 @@ use Rattle.dependents.specs.Marks.{Marked, SomeIn}
 use Rattle.partition.specs.Numbering.{Numbered}
 use Rattle.grouping.specs.Groups.{Same, Grouped}
 use Rattle.partition.specs.Parts.{number_of, Renumbered}
-use Rattle.partition.specs.Members.{flag, Members, dirty_count}
+use Rattle.partition.specs.Members.{flag, Members, CleanAt, dirty_count}
 use Rattle.refine.specs.Splits.{Settled, SplitUp, Parted, PartsNumbered}
 use Rattle.theory.specs.Equality.{not_both}
 
@@ -34,6 +36,20 @@ found_or_not found (suc i) q = go (ℕ_discrete (get_or found i 0) q) (found_or_
         last : (k : ℕ) → k < suc i → Dec (k ≡ i) → get_or found k 0 ≢ q
         last k l (yes e) = subst (λ (x : ℕ). get_or found x 0 ≢ q) (sym e) d
         last k l (no e) = r k (omega arith)
+
+-- the members are those that stand in the front of the list
+pub members_front : {n D count : ℕ} {clean : Option ℕ} {blocks found : List ℕ} {dirty : List Bool} → Members D n blocks dirty found count clean → count ≤ length found
+    → Members D n blocks dirty (take count found) (length (take count found)) clean
+members_front {n} {D} {count} {clean} {blocks} {found} {dirty} members inside = rw (length-take-le count found inside) (record {
+  few = members.few;
+  members = λ i l. rw (get_or-take count found i 0 l) (members.members i l);
+  dirty_found = λ q l b f. let r = members.dirty_found q l b f in (r.0, r.1, get_or-take count found r.0 0 r.1 ∙ r.2);
+  clean_found = front clean members.clean_found;
+})
+  where
+    front : (one : Option ℕ) → CleanAt D n blocks dirty found count one → CleanAt D n blocks dirty (take count found) count one
+    front None all = all
+    front (Some place) at = (at.0, rw (get_or-take count found place 0 at.0) at.1)
 
 -- the numbers of parts
 number_keeper : (keeper D total : ℕ) → number_of keeper D total keeper ≡ D
@@ -109,7 +125,7 @@ count_less dirty dirty' (suc n) x h l t f = go (ℕ_discrete x n) (count_less di
         rw (t', f') (omega (arith, most))
     go (no d) ih = both (flag dirty n) (flag dirty' n) (h n (omega arith)) (ih (omega arith) t f)
 
-module _ {a : ℕ} {profile : ℕ → List Entry} {n D total many clean parts keeper : ℕ} {blocks : List ℕ} {dirty : List Bool} {found part : List ℕ}
+module _ {a : ℕ} {profile : ℕ → List Entry} {n D total many parts keeper : ℕ} {clean : Option ℕ} {blocks : List ℕ} {dirty : List Bool} {found part : List ℕ}
     (numbered : Numbered n blocks total) (members : Members D n blocks dirty found many clean) (grouped : Grouped a profile many found parts part)
     (keeps : keeper < parts) where
   -- a state that is found twice is in one part
@@ -170,7 +186,7 @@ module _ {a : ℕ} {profile : ℕ → List Entry} {n D total many clean parts ke
   split_few = blocks_few n (planned many) (total + parts - 1) (all_used (planned many) (λ k l. planned_own many k (omega arith) l) (λ q l d. planned_else many q (omega arith) d))
 
   module _ (Depend : ℕ → ℕ → Type 0) {blocks' : List ℕ} {dirty' dirty'' : List Bool} (settled : Settled a profile n blocks dirty)
-      (of_clean : clean < 256 → keeper ≡ get_or part clean 0) (renumbered : Renumbered many D total keeper found part blocks dirty blocks' dirty')
+      (of_clean : IfSome clean (λ place. keeper ≡ get_or part place 0)) (renumbered : Renumbered many D total keeper found part blocks dirty blocks' dirty')
       (marks : Marked (λ q. SomeIn 0 many (λ i. (get_or part i 0 ≢ keeper) × Depend (get_or found i 0) q)) dirty' dirty'') where
     away : (q : ℕ) → get_or blocks q 0 ≢ D → (k : ℕ) → k < many → get_or found k 0 ≢ q
     away q d k l e = d (ap (λ (x : ℕ). get_or blocks x 0) (sym e) ∙ (members.members k l).1)
@@ -193,16 +209,18 @@ module _ {a : ℕ} {profile : ℕ → List Entry} {n D total many clean parts ke
 
         unfound : ((k : ℕ) → k < many → get_or found k 0 ≢ p) → (c : Bool) → flag dirty p ≡ c → In p
         unfound none true t = let r = members.dirty_found p l b t in absurd (none r.0 r.1 r.2)
-        unfound none false f =
-            let some = members.clean_found p l b f in
-            let at = members.clean_place some in
-            let own = members.members clean at.0 in
-            record {
-              place = clean;
-              placed = at.0;
-              number = (renumbered.others p none).0 ∙ b ∙ sym (number_keeper keeper D total) ∙ ap (number_of keeper D total) (of_clean some);
-              same = settled p (get_or found clean 0) l own.0 f at.1 (b ∙ sym own.1);
-            }
+        unfound none false f = of_one clean members.clean_found of_clean
+          where
+            of_one : (one : Option ℕ) → CleanAt D n blocks dirty found many one → IfSome one (λ place. keeper ≡ get_or part place 0) → In p
+            of_one None all keeps = absurd (not_both (flag dirty p) (all p l b) f)
+            of_one (Some place) at keeps =
+                let own = members.members place at.0 in
+                record {
+                  place = place;
+                  placed = at.0;
+                  number = (renumbered.others p none).0 ∙ b ∙ sym (number_keeper keeper D total) ∙ ap (number_of keeper D total) keeps;
+                  same = settled p (get_or found place 0) l own.0 f at.1 (b ∙ sym own.1);
+                }
 
         go : ((k : ℕ) × (k < many) × (get_or found k 0 ≡ p)) ⊎ ((k : ℕ) → k < many → get_or found k 0 ≢ p) → In p
         go (inl r) = record {
@@ -292,7 +310,11 @@ module _ {a : ℕ} {profile : ℕ → List Entry} {n D total many clean parts ke
       was q e (inl r) = absurd (not_both (flag dirty' q) e (subst (λ (y : ℕ). flag dirty' y ≡ false) r.2 (renumbered.cleared r.0 r.1)))
       was q e (inr none) = sym (renumbered.others q none).1 ∙ e
 
-module _ {a : ℕ} {profile : ℕ → List Entry} {n D total many clean parts : ℕ} {blocks : List ℕ} {dirty : List Bool} {found part : List ℕ}
+place_known : (D n many : ℕ) (blocks found : List ℕ) (dirty : List Bool) (one : Option ℕ) → CleanAt D n blocks dirty found many one → IfSome one (λ place. place < many)
+place_known D n many blocks found dirty None all = tt
+place_known D n many blocks found dirty (Some place) at = at.0
+
+module _ {a : ℕ} {profile : ℕ → List Entry} {n D total many parts : ℕ} {clean : Option ℕ} {blocks : List ℕ} {dirty : List Bool} {found part : List ℕ}
     (numbered : Numbered n blocks total) (members : Members D n blocks dirty found many clean) (grouped : Grouped a profile many found parts part)
     (x : ℕ) (known : x < n) (own : get_or blocks x 0 ≡ D) (is-dirty : flag dirty x ≡ true) where
   -- the parts of a block with a dirty state can be given numbers
@@ -307,7 +329,7 @@ module _ {a : ℕ} {profile : ℕ → List Entry} {n D total many clean parts : 
         numbers_few = omega (arith, split_few numbered members grouped keeps);
         within = grouped.within;
         one_part = split_agree numbered members grouped keeps;
-        clean_place = λ l. (members.clean_place l).0;
+        clean_place = place_known D n many blocks found dirty clean members.clean_found;
       }
 
   -- with those numbers, and the marks, the block is split

@@ -1,5 +1,5 @@
 -- The steps of the refinement: a block is split into parts, and again until no state is dirty.
-use Rattle.std.specs.Prelude.{ℕ, ◌+◌, ◌≤◌, ◌<◌, Bool, true, false, List, ◌⊎◌, ◌≢◌, ◌↔◌, ◌≡◌, length, get_or, replicate}
+use Rattle.std.specs.Prelude.{ℕ, ◌+◌, ◌≤◌, ◌<◌, Bool, true, false, Option, IfSome, List, ◌⊎◌, ◌≢◌, ◌↔◌, ◌≡◌, length, get_or, replicate}
 use Rattle.theory.specs.Blocks.{block_of}
 use Rattle.profiles.specs.Entries.{Entry}
 use Rattle.partition.specs.Members.{dirty_count, flag}
@@ -14,21 +14,21 @@ Settled a profile n blocks dirty =
     (p q : ℕ) → p < n → q < n → flag dirty p ≡ false → flag dirty q ≡ false → get_or blocks p 0 ≡ get_or blocks q 0 → Same a (profile p) (profile q)
 
 -- each of the states found is in one part, and there is a byte for each part's number beside the `total` numbers in use
-pub record Parted (total many clean : ℕ) (found : List ℕ) (parts : ℕ) (part : List ℕ) : Type 0 where
+pub record Parted (total many : ℕ) (clean : Option ℕ) (found : List ℕ) (parts : ℕ) (part : List ℕ) : Type 0 where
   pub some : 0 < many
   pub few : many ≤ 256
   pub parts_few : parts ≤ many
   pub numbers_few : total + parts ≤ 257
   pub within : (i : ℕ) → i < many → get_or part i 0 < parts
   pub one_part : (i k : ℕ) → i < many → k < many → get_or found i 0 ≡ get_or found k 0 → get_or part i 0 ≡ get_or part k 0
-  pub clean_place : clean < 256 → clean < many
+  pub clean_place : IfSome clean (λ place. place < many)
 
 -- one part of the block D keeps its number, that of the clean member if there is one, and the others get new ones; the members are
 -- cleared, and then the states that depend on a member with a new number are marked
-pub record PartsNumbered (Depend : ℕ → ℕ → Type 0) (D total many clean : ℕ) (found : List ℕ) (parts : ℕ) (part blocks : List ℕ) (dirty : List Bool) (blocks' : List ℕ) (dirty' : List Bool) : Type 0 where
+pub record PartsNumbered (Depend : ℕ → ℕ → Type 0) (D total many : ℕ) (clean : Option ℕ) (found : List ℕ) (parts : ℕ) (part blocks : List ℕ) (dirty : List Bool) (blocks' : List ℕ) (dirty' : List Bool) : Type 0 where
   pub keeper : ℕ
   pub keeps : keeper < parts
-  pub of_clean : clean < 256 → keeper ≡ get_or part clean 0
+  pub of_clean : IfSome clean (λ place. keeper ≡ get_or part place 0)
   pub cleared : List Bool
   pub renumbered : Renumbered many D total keeper found part blocks dirty blocks' cleared
   pub marked : Marked (λ q. SomeIn 0 many (λ i. (get_or part i 0 ≢ keeper) × Depend (get_or found i 0) q)) cleared dirty'

@@ -1,15 +1,13 @@
 -- With which numbers a table is refused: 1 to 7 and 19, each of them, and no other; 2 only where a number is padded, 19 only where one is
 -- too large (document 01, "Numbers that come back"; document 02, M-104).
 use Prim.Native.Nat.{ℕ, zero, suc}
-use Rattle.std.specs.Prelude.{◌≡◌, refl, Bool, true, false, ◌&&◌, length, get_or, leb, ltb}
+use Rattle.std.specs.Prelude.{◌≡◌, refl, Bool, true, false, ◌&&◌, length, get_or, leb, ltb, Ok, Err}
 use Rattle.std.proofs.Common.{sym, subst, arith}
 use mathlib.Core.List.{List, [], ◌∷◌, Memᴰ}
 use Rattle.answers.specs.declared.Refusal.{Refusal}
 use Rattle.answers.specs.declared.Refusal.TheVariants.{TableEnds, PaddedNumber, OutOfRange, NotInTable, ZeroCode, NotAbove, TableGoesOn, LargeNumber}
 use Rattle.answers.specs.Numbers.{code_of, refusal_figure}
-use Rattle.numbers.specs.declared.NumberRead.{NumberRead}
-use Rattle.numbers.specs.declared.NumberRead.TheVariants.{Number, Refused}
-use Rattle.numbers.specs.Read.{number_at}
+use Rattle.numbers.specs.Read.{NumberRead, number_at}
 use Rattle.numbers.specs.Causes.{Padded, TooLarge, Cause}
 use Rattle.numbers.proofs.Causes.{number_cause}
 use Rattle.model.specs.Table.{Each, key, lower}
@@ -31,9 +29,9 @@ module _ (P : Refusal → Type 0) where
   provided_told true refusal x h k = k
   provided_told false refusal x h k = h
 
-  number_told : (x : NumberRead) → ((refusal : Refusal) → x ≡ Refused refusal → P refusal) → Told P (as_found x)
-  number_told (Number n next) h = tt
-  number_told (Refused refusal) h = h refusal refl
+  number_told : (x : NumberRead) → ((refusal : Refusal) → x ≡ Err refusal → P refusal) → Told P (as_found x)
+  number_told (Ok (n, next)) h = tt
+  number_told (Err refusal) h = h refusal refl
 
   many_told : (item : ℕ → Found ℕ) → ((at : ℕ) → Told P (item at)) → (k at : ℕ) → Told P (many item k at)
   unfolding many

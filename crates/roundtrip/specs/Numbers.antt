@@ -1,15 +1,13 @@
 -- A number's reading and its written form (document 01, "Bytes"): what is read is what is written there, and what is written is read.
-use Rattle.std.specs.Prelude.{ℕ, zero, suc, ◌+◌, ◌*◌, ◌-◌, ◌/◌, ◌%◌, ◌≤◌, ◌<◌, ◌^◌, ◌≡◌, refl, List, [], ◌∷◌, ◌++◌, length, get_or, drop}
+use Rattle.std.specs.Prelude.{ℕ, zero, suc, ◌+◌, ◌*◌, ◌-◌, ◌/◌, ◌%◌, ◌≤◌, ◌<◌, ◌^◌, ◌≡◌, refl, List, [], ◌∷◌, ◌++◌, length, get_or, drop, Ok, Err}
 use Rattle.std.proofs.Common.{sym, ap, ap₂, ◌∙◌, arith, add-one, length-drop, drop-cons, drop-drop, drop_at, lt-ltb, le-ltb}
 use Rattle.std.proofs.Math.Nat.{one-le-pow}
 use Rattle.std.proofs.Math.Decide.{dec_lt}
 use Rattle.answers.specs.declared.Refusal.{Refusal}
 use Rattle.model.specs.Table.{Each}
 use Rattle.numbers.specs.declared.Cursor.{Cursor}
-use Rattle.numbers.specs.declared.NumberRead.{NumberRead}
-use Rattle.numbers.specs.declared.NumberRead.TheVariants.{Number, Refused}
 use Rattle.numbers.specs.Written.{groups, written}
-use Rattle.numbers.specs.Read.{number, with_lowest, more_from, number_at, more_ends, number_ends, more_padded, more_last, more_more, fifth_large, fifth_last, number_short, number_long}
+use Rattle.numbers.specs.Read.{NumberRead, number, with_lowest, more_from, number_at, more_ends, number_ends, more_padded, more_last, more_more, fifth_large, fifth_last, number_short, number_long}
 
 groups_zero : (n : ℕ) → groups 0 n ≡ n ∷ []
 unfolding groups
@@ -46,10 +44,14 @@ stands_one s at byte h e = stands_cons s at byte [] (at + 1) h e (record { there
 
 -- what a number with a lowest group was read from
 below_number : (low n p : ℕ) (r : NumberRead) → with_lowest low r ≡ number n p → (m : ℕ) × (r ≡ number m p) × (n ≡ low + 128 * m)
-below_number low n p (Number m next) e = (m, cc, cc)
-below_number low n p (Refused refusal) e = let z : ◌≡◌ {A = ℕ} 0 1 = cc in absurd (omega arith)
+below_number low n p (Ok (m, next)) e =
+    let pair : (low + 128 * m, next) ≡ (n, record { at = p }) = cc in
+    let count : low + 128 * m ≡ n = ap (λ (v : ℕ × Cursor). v.0) pair in
+    let place : next ≡ record { at = p } = ap (λ (v : ℕ × Cursor). v.1) pair in
+    (m, ap (λ (c : Cursor). Ok (m, c)) place, sym count)
+below_number low n p (Err refusal) e = let z : ◌≡◌ {A = ℕ} 0 1 = cc in absurd (omega arith)
 
-never : (r : NumberRead) (refusal : Refusal) (n p : ℕ) → r ≡ Refused refusal → r ≡ number n p → ⊥
+never : (r : NumberRead) (refusal : Refusal) (n p : ℕ) → r ≡ Err refusal → r ≡ number n p → ⊥
 never r refusal n p e e₁ = let z : ◌≡◌ {A = ℕ} 0 1 = cc in omega arith
 
 module _ (s : List ℕ) (at n p : ℕ) where
@@ -73,7 +75,9 @@ module _ (s : List ℕ) (g first at n p : ℕ) (e : more_from g s first at ≡ n
 
 -- numbers as read: what was read, and where it ended
 same_number : (n m p q : ℕ) (r : NumberRead) → r ≡ number m q → r ≡ number n p → (n ≡ m) × (p ≡ q)
-same_number n m p q r e e₁ = let next : ◌≡◌ {A = Cursor} (record { at = p }) (record { at = q }) = cc in (cc, ap (λ (c : Cursor). c.at) next)
+same_number n m p q r e e₁ =
+    let pair : ◌≡◌ {A = ℕ × Cursor} (n, record { at = p }) (m, record { at = q }) = cc in
+    (ap (λ (v : ℕ × Cursor). v.0) pair, ap (λ (v : ℕ × Cursor). v.1.at) pair)
 
 module _ (s : List ℕ) (small : (i : ℕ) → get_or s i 0 < 256) where
   -- the bytes after the first

@@ -1,6 +1,6 @@
 -- How far a reading of a table reaches: what it means that it is decided by so many bytes, and that the steps of a reading are.
 use Prim.Native.Nat.{ℕ, zero, suc, ◌+◌, ◌*◌, ◌-◌, ◌≤◌, ◌<◌, ◌^◌}
-use Rattle.std.specs.Prelude.{◌≡◌, refl, Bool, true, false, cond, ◌&&◌, take, T, leb, ltb, eqb}
+use Rattle.std.specs.Prelude.{◌≡◌, refl, Bool, true, false, cond, ◌&&◌, take, T, leb, ltb, eqb, Ok, Err}
 use Rattle.std.proofs.Common.{sym, ap, ◌∙◌, subst, arith, get_or-take, length-take-le}
 use mathlib.Core.List.{List, [], ◌∷◌}
 use Rattle.std.proofs.Math.ListN.{length, get_or}
@@ -8,9 +8,7 @@ use borrow.Author.Tests.{lt-leb, leb-true}
 use Rattle.answers.specs.declared.Refusal.{Refusal}
 use Rattle.answers.specs.declared.Refusal.TheVariants.{OutOfRange, NotInTable, ZeroCode, NotAbove, TableGoesOn}
 use Rattle.answers.specs.Numbers.{refusal_figure}
-use Rattle.numbers.specs.declared.NumberRead.{NumberRead}
-use Rattle.numbers.specs.declared.NumberRead.TheVariants.{Number, Refused}
-use Rattle.numbers.specs.Read.{with_lowest, more_from, number_at}
+use Rattle.numbers.specs.Read.{NumberRead, with_lowest, more_from, number_at}
 use Rattle.numbers.specs.Written.{written}
 use Rattle.model.proofs.Each.{each_implies, each-get_or}
 use Rattle.model.specs.Table.{Table, Transition, Each, key, lower}
@@ -25,16 +23,16 @@ use Rattle.format.specs.Read.{Found, found, refused, after, provided, as_found, 
 
 -- a reading of a number that has no figure above the limit
 abbrev Figured : ℕ → NumberRead → Type 0
-Figured limit (Number n next) = Unit {0}
-Figured limit (Refused refusal) = refusal_figure refusal ≤ limit
+Figured limit (Ok (n, next)) = Unit {0}
+Figured limit (Err refusal) = refusal_figure refusal ≤ limit
 
 figured_choice : (limit : ℕ) (test : Bool) (r r₁ : NumberRead) → (test ≡ true → Figured limit r) → Figured limit r₁ → Figured limit (cond test r r₁)
 figured_choice limit true r r₁ h h₁ = h refl
 figured_choice limit false r r₁ h h₁ = h₁
 
 figured_below : (limit low : ℕ) (r : NumberRead) → Figured limit r → Figured limit (with_lowest low r)
-figured_below limit low (Number n next) h = tt
-figured_below limit low (Refused refusal) h = h
+figured_below limit low (Ok (n, next)) h = tt
+figured_below limit low (Err refusal) h = h
 
 module _ (s : List ℕ) where
   more_figured : (g first at limit : ℕ) → first ≤ limit → at + g ≤ limit → Figured limit (more_from g s first at)
@@ -112,8 +110,8 @@ module _ (s : List ℕ) (size : ℕ) where
   }
     where
       figured : (r : NumberRead) (refusal : Refusal) → Figured size r → as_found r ≡ refused refusal → refusal_figure refusal ≤ size
-      figured (Number n next) refusal h e = let z : ◌≡◌ {A = ℕ} 0 1 = cc in absurd (omega arith)
-      figured (Refused refusal₁) refusal h e = let same : refusal₁ ≡ refusal = cc in subst (λ r. refusal_figure r ≤ size) same h
+      figured (Ok (n, next)) refusal h e = let z : ◌≡◌ {A = ℕ} 0 1 = cc in absurd (omega arith)
+      figured (Err refusal₁) refusal h e = let same : refusal₁ ≡ refusal = cc in subst (λ r. refusal_figure r ≤ size) same h
 
   -- a number with a test that names its place
   early_tested : (test : ℕ → Bool) (refusal : ℕ → Refusal) → ((at : ℕ) → refusal_figure (refusal at) ≡ at) → (at : ℕ) → at + 5 ≤ size

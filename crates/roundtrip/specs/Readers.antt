@@ -1,15 +1,13 @@
 -- Readers: what is found at a place is exactly the value whose numbers stand there. Numbers, lists, tests.
 use Prim.Native.Nat.{ℕ, zero, suc, ◌≤◌, ◌<◌, ◌^◌}
-use Rattle.std.specs.Prelude.{◌≡◌, refl, Bool, true, false, ◌&&◌, length, get_or, T, leb, ltb}
+use Rattle.std.specs.Prelude.{◌≡◌, refl, Bool, true, false, ◌&&◌, length, get_or, T, leb, ltb, Ok, Err}
 use Rattle.std.proofs.Math.Path.{ap}
 use Rattle.std.proofs.Common.{◌∙◌, subst₂, arith, leb→le, le→leb, ltb→lt, lt→ltb}
 use mathlib.Core.List.{List, [], ◌∷◌}
 use Rattle.std.proofs.Math.Facts.{and_yes, yes_and}
 use Rattle.answers.specs.declared.Refusal.{Refusal}
 use Rattle.answers.specs.declared.Refusal.TheVariants.{OutOfRange, NotInTable, ZeroCode}
-use Rattle.numbers.specs.declared.NumberRead.{NumberRead}
-use Rattle.numbers.specs.declared.NumberRead.TheVariants.{Number, Refused}
-use Rattle.numbers.specs.Read.{number, number_at}
+use Rattle.numbers.specs.Read.{NumberRead, number, number_at}
 use Rattle.model.specs.Table.{Each}
 use Rattle.format.specs.Read.{Found, found, refused, after, provided, as_found, any, within, one_of, listed, many}
 use Rattle.roundtrip.specs.Numbers.{number_sound}
@@ -66,8 +64,8 @@ module _ (s : List ℕ) {A : Type 0} (numbers : A → List ℕ) (item : ℕ → 
   }
 
 number_found : (r : NumberRead) (n p : ℕ) → as_found r ≡ found n p → r ≡ number n p
-number_found (Number m next) n p e = let e₁ : m ≡ n = cc in let e₂ : next.at ≡ p = cc in λ i. Number (e₁ i) (record { at = e₂ i })
-number_found (Refused refusal) n p e = let z : ◌≡◌ {A = ℕ} 0 1 = cc in absurd (omega arith)
+number_found (Ok (m, next)) n p e = let e₁ : m ≡ n = cc in let e₂ : next.at ≡ p = cc in λ i. Ok (e₁ i, record { at = e₂ i })
+number_found (Err refusal) n p e = let z : ◌≡◌ {A = ℕ} 0 1 = cc in absurd (omega arith)
 
 -- a number is read alone
 abbrev pub itself : ℕ → List ℕ

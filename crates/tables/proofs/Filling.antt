@@ -1,100 +1,61 @@
--- The invariant of the loops that read numbers into an array, for ranks, final codes and children alike: what is in the array
--- so far, and what the definition finds from here on, make up what the definition finds as a whole.
-use Prim.Native.Nat.{ℕ, suc, ◌+◌, ◌-◌, ◌≤◌, ◌<◌}
-use mathlib.Core.Path.{◌≡◌, refl, sym, ap, ◌∙◌, subst}
-use mathlib.Core.List.{List, [], ◌∷◌, ◌++◌, append_assoc, append-nil}
-use native.Mathlib.Omega.{arith}
-use native.Mathlib.Nat.{sub-zero}
-use native.Mathlib.Numerals.{add-one}
-use lib.ListN.{length, take, drop, set, length-set, length-drop}
-use lib.Seq.{drop-set-add, take-suc-set, take-set-le, length-take-le}
+-- The invariant of the loop that reads values into a slice, and what its promise says of the definition of a table.
+use Rattle.std.proofs.Common.{ℕ, zero, suc, get_or, arith, ◌+◌, ◌≤◌, ◌<◌, ◌≡◌, refl, sym, ⊎_elim, inl, inr, List, [], ◌∷◌, ◌++◌, length, take, drop, set, append_assoc, append-nil, Result, Ok, Err}
+use Rattle.std.proofs.lemmas.List.{take_more_set, take_all, set_split}
 use Rattle.answers.specs.declared.Refusal.{Refusal}
-use Rattle.format.specs.Read.{Found, found, refused, many}
-use Rattle.tables.specs.Steps.{Filled}
-use Rattle.tables.specs.declared.Step.TheVariants.{Next, Refused}
+use Rattle.numbers.specs.declared.Cursor.{Cursor}
+use Rattle.format.specs.Read.{Found, found, after, as_found, many}
+use Rattle.tables.specs.Steps.{Finds, ReadEach, ReadAll}
 
--- what was found so far, in front of what is found from here on
-abbrev pub prefixed : {A : Type 0} → List A → Found (List A) → Found (List A)
-prefixed xs (found ys end) = found (xs ++ ys) end
-prefixed xs (refused refusal) = refused refusal
+-- i values are read into the slice, one after another: what is read from here on continues them
+pub record SoFar {A : Type 0} (read : Cursor → Result (A × Cursor) Refusal → Type 0) (start : Cursor) (slice : List A) (i : ℕ) (at : Cursor) : Type 0 where
+  pub continued : (rest : List A) (result : Result Cursor Refusal) → ReadEach read rest at result → ReadEach read (take i slice ++ rest) start result
 
-pub prefixed_none : {A : Type 0} (r : Found (List A)) → prefixed [] r ≡ r
-prefixed_none (found ys end) = refl
-prefixed_none (refused refusal) = refl
+module _ {A : Type 0} (read : Cursor → Result (A × Cursor) Refusal → Type 0) (start : Cursor) where
+  pub so_far_starts : (slice : List A) → SoFar read start slice 0 start
+  so_far_starts slice = record { continued = λ rest result h. h }
 
-pub prefixed_prefixed : {A : Type 0} (xs ys : List A) (r : Found (List A)) → prefixed xs (prefixed ys r) ≡ prefixed (xs ++ ys) r
-prefixed_prefixed xs ys (found zs end) = ap (λ (l : List _). found l end) (sym (append_assoc xs ys zs))
-prefixed_prefixed xs ys (refused refusal) = refl
+  module _ (slice : List A) (i : ℕ) (at : Cursor) (f : SoFar read start slice i at) where
+    pub so_far_goes_on : (a : A) (next : Cursor) → i < length slice → read at (Ok (a, next)) → SoFar read start (set slice i a) (i + 1) next
+    so_far_goes_on a next h e = record {
+      continued = λ rest result more. rw (take_more_set slice i a h, append_assoc) (f.continued (a ∷ rest) result (inl (next, e, more)));
+    }
 
-module _ (item : ℕ → Found ℕ) where
-  behind_one : (n : ℕ) (r : Found (List ℕ)) → Rattle.format.specs.Read.after r (λ ns end. found (n ∷ ns) end) ≡ prefixed (n ∷ []) r
-  behind_one n (found ns end) = refl
-  behind_one n (refused refusal) = refl
+    pub so_far_ends : length slice ≤ i → ReadEach read slice start (Ok at)
+    so_far_ends h = rw (take_all i slice h, append-nil) at (f.continued [] (Ok at) refl)
 
-  many_found : (k at n next : ℕ) → item at ≡ found n next → many item (suc k) at ≡ prefixed (n ∷ []) (many item k next)
+    -- what is stored at place i meanwhile does not matter
+    pub so_far_refused : (a : A) (refusal : Refusal) (result : Result Cursor Refusal) → i < length slice → read at (Err refusal) → result ≡ Err refusal
+        → ReadEach read (set slice i a) start result
+    so_far_refused a refusal result h e r = rw (set_split slice i a h) (f.continued (a ∷ drop (suc i) slice) result (inr (refusal, e, r)))
+
+-- numbers read one after another are those that the definition finds, if one number is
+module _ (item : ℕ → Found ℕ) (read : Cursor → Result (ℕ × Cursor) Refusal → Type 0) (one : (at : Cursor) (result : Result (ℕ × Cursor) Refusal) → read at result → as_found result ≡ item at.at) where
+  behind_one : (n : ℕ) (ns : List ℕ) (x : Found (List ℕ)) (result : Result Cursor Refusal) → Finds x ns result → Finds (after x (λ ms end. found (n ∷ ms) end)) (n ∷ ns) result
+  behind_one n ns x (Ok next) e = rw e
+  behind_one n ns x (Err refusal) e = rw e
+
+  all_many : (ns : List ℕ) (at : Cursor) (result : Result Cursor Refusal) → ReadEach read ns at result → Finds (many item (length ns) at.at) ns result
   unfolding many
-  many_found k at n next h = rw h (behind_one n (many item k next))
+  all_many [] at result e = rw e refl
+  all_many (n ∷ ns) at result h =
+      ⊎_elim
+      (λ (next, e, more). rw (← one at (Ok (n, next)) e) (behind_one n ns (many item (length ns) next.at) result (all_many ns next result more)))
+      (λ (refusal, e, r). rw (r, ← one at (Err refusal) e) refl)
+      h
 
-  many_refused : (k at : ℕ) (refusal : Refusal) → item at ≡ refused refusal → many item (suc k) at ≡ refused refusal
-  unfolding many
-  many_refused k at refusal h = rw h
+  alls_small : (bound : ℕ) → ((at n next : ℕ) → item at ≡ found n next → n ≤ bound) → (ns : List ℕ) (at next : Cursor) → ReadEach read ns at (Ok next)
+      → (i : ℕ) → get_or ns i 0 ≤ bound
+  alls_small bound small [] at next h i = omega arith
+  alls_small bound small (n ∷ ns) at next h zero = ⊎_elim (λ (mid, e, more). small at.at n mid.at (sym (one at (Ok (n, mid)) e))) (λ (refusal, e, r). cc) h
+  alls_small bound small (n ∷ ns) at next h (suc i) = ⊎_elim (λ (mid, e, more). alls_small bound small ns mid next more i) (λ (refusal, e, r). cc) h
 
-  many_none : (at : ℕ) → many item 0 at ≡ found [] at
-  unfolding many
-  many_none at = refl
+-- the same, with what is known of one number last
+module _ (item : ℕ → Found ℕ) {read : Cursor → Result (ℕ × Cursor) Refusal → Type 0} {ns : List ℕ} {at : Cursor} {result : Result Cursor Refusal} where
+  pub all_found : (k : ℕ) → ReadAll read ns at result → length ns ≡ k
+      → ((at : Cursor) (result : Result (ℕ × Cursor) Refusal) → read at result → as_found result ≡ item at.at) → Finds (many item k at.at) ns result
+  all_found k h long one = rw (← long) (all_many item read one ns at result h.each)
 
--- i of k numbers are read into the array from `from` on, and the next place is `at`
-pub record Filling (item : ℕ → Found ℕ) (k from start : ℕ) (before array : List ℕ) (i at : ℕ) : Type 0 where
-  pub some : i ≤ k
-  pub rest : prefixed (take i (drop from array)) (many item (k - i) at) ≡ many item k start
-  pub kept : take from array ≡ take from before
-  pub long : length array ≡ length before
-
-module _ (item : ℕ → Found ℕ) (k from start : ℕ) (before : List ℕ) where
-  pub filling_starts : Filling item k from start before before 0 start
-  filling_starts =
-      record { some = omega arith; rest = rw (sub-zero k) (prefixed_none (many item k start)); kept = refl; long = refl }
-
-  slot : (array : List ℕ) (i n : ℕ) → from + i < length array → take (i + 1) (drop from (set array (from + i) n)) ≡ take i (drop from array) ++ (n ∷ [])
-  slot array i n h =
-      rw (add-one i, drop-set-add from array i n)
-      (take-suc-set (drop from array) i n (simp length-drop (omega arith)))
-
-  pub filling_goes_on : (array : List ℕ) (i at place n next : ℕ) → Filling item k from start before array i at → i < k → from + k ≤ length before
-      → place ≡ from + i → item at ≡ found n next → Filling item k from start before (set array place n) (i + 1) next
-  filling_goes_on array i at place n next f h fits e g =
-      let long = f.long in
-      let left : k - i ≡ suc (k - (i + 1)) = omega arith in
-      let whole = f.rest in
-      record {
-        some = omega arith;
-        rest =
-            rw (
-              e,
-              slot array i n (omega arith),
-              ← prefixed_prefixed (take i (drop from array)) (n ∷ []) (many item (k - (i + 1)) next),
-              ← many_found item (k - (i + 1)) at n next g,
-              ← left,
-            )
-            whole;
-        kept = rw (e, take-set-le from array (from + i) n (omega arith)) f.kept;
-        long = length-set array place n ∙ f.long;
-      }
-
-  pub filling_ends : (array : List ℕ) (i at : ℕ) → Filling item k from start before array i at → k ≤ i → from + k ≤ length before
-      → Filled (many item k start) from before array (Next (record { at = at }))
-  filling_ends array i at f h fits =
-      let long = f.long in
-      let some = f.some in
-      let none : k - i ≡ 0 = omega arith in
-      let whole : found (take i (drop from array) ++ []) at ≡ many item k start = rw (none, many_none item at) at f.rest in
-      let short : length (take i (drop from array)) ≡ i = length-take-le i (drop from array) (simp length-drop (omega arith)) in
-      subst (λ (r : Found (List ℕ)). Filled r from before array (Next (record { at = at }))) whole
-      (refl, rw (append-nil, short), f.kept, f.long)
-
-  pub filling_refused : (array after : List ℕ) (i at : ℕ) (refusal : Refusal) → Filling item k from start before array i at → i < k
-      → item at ≡ refused refusal → Filled (many item k start) from before after (Refused refusal)
-  filling_refused array after i at refusal f h g =
-      let left : k - i ≡ suc (k - (i + 1)) = omega arith in
-      let whole : refused refusal ≡ many item k start = rw (left, many_refused item (k - (i + 1)) at refusal g) at f.rest in
-      subst (λ (r : Found (List ℕ)). Filled r from before after (Refused refusal)) whole refl
+pub all_small : (item : ℕ → Found ℕ) (bound : ℕ) {read : Cursor → Result (ℕ × Cursor) Refusal → Type 0} {ns : List ℕ} {at next : Cursor} → ReadAll read ns at (Ok next)
+    → ((at n next : ℕ) → item at ≡ found n next → n ≤ bound) → ((at : Cursor) (result : Result (ℕ × Cursor) Refusal) → read at result → as_found result ≡ item at.at)
+    → (i : ℕ) → get_or ns i 0 ≤ bound
+all_small item bound {read} {ns} {at} {next} h small one = alls_small item read one bound small ns at next h.each

@@ -1,5 +1,3 @@
-pub mod After
-pub mod Blank
 pub mod Bounds
 pub mod Filling
 pub mod Order

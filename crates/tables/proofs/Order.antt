@@ -1,12 +1,10 @@
 -- How the keys of two neighbours compare, number by number.
-use Prim.Native.Nat.{ℕ, suc, ◌+◌, ◌*◌, ◌≤◌, ◌<◌}
+use Prim.Native.Nat.{ℕ, suc, ◌*◌}
 use mathlib.Core.Path.{◌≡◌, refl, sym, ◌∙◌}
 use mathlib.Core.Bool.{Bool, true, false, cond}
 use mathlib.Core.List.{List, [], ◌∷◌, ◌++◌}
 use native.Mathlib.Omega.{arith}
-use native.Mathlib.Numerals.{add-one}
-use lib.ListN.{length, take, drop, get_or, length-take, length-drop, drop_of_length-le}
-use lib.Seq.{drop-cons, get_or-take, get_or-drop}
+use lib.ListN.{length, take, drop, get_or}
 use lib.Dec.{ltb, eqb}
 use borrow.Author.Tests.{eq-eqb, ne_eqb, le-ltb}
 use Rattle.model.specs.Table.{lower}
@@ -34,30 +32,34 @@ module _ (ranks symbol children target : List ℕ) (i j : ℕ) (next : j ≡ suc
   order_by_children rank e r =
       rw (before_is, e, eq-eqb (get_or symbol j 0) (get_or symbol j 0) refl, ← r)
 
-module _ (children : List ℕ) (from rank k : ℕ) where
-  rest_opens : k < rank → from + rank ≤ length children
-      → drop k (take rank (drop from children)) ≡ get_or children (from + k) 0 ∷ drop (k + 1) (take rank (drop from children))
-  rest_opens h fits =
-      let inside : k < length (take rank (drop from children)) = simp (length-take, length-drop) (omega arith) in
-      rw (add-one, drop-cons (take rank (drop from children)) k 0 inside, get_or-take rank (drop from children) k 0 h, get_or-drop from children k 0)
+-- what is left of the two keys decides: the children from here on, and then the targets
+pub record Left (above own : List ℕ) (last mine : ℕ) (whole : Bool) : Type 0 where
+  pub as_many : length above ≡ length own
+  pub decides : lower (above ++ (last ∷ [])) (own ++ (mine ∷ [])) ≡ whole
 
-  rest_ends : rank ≤ k → drop k (take rank (drop from children)) ≡ []
-  rest_ends h = drop_of_length-le (take rank (drop from children)) {i = k} (simp length-take (omega arith))
+pub left_starts : (ranks symbol children target : List ℕ) (i j : ℕ) → j ≡ suc i → get_or symbol i 0 ≡ get_or symbol j 0 → {above own : List ℕ}
+    → above ≡ take (get_or ranks (get_or symbol i 0) 0) (drop (i * 4) children)
+    → own ≡ take (get_or ranks (get_or symbol j 0) 0) (drop (j * 4) children)
+    → length above ≡ length own
+    → Left above own (get_or target i 0) (get_or target j 0) (lower (key_before ranks symbol children target j) (key_at ranks symbol children target j))
+left_starts ranks symbol children target i j next e a b as_many =
+    record { as_many = as_many; decides = rw (a, b, e) (order_by_children ranks symbol children target i j next (get_or ranks (get_or symbol j 0) 0) e refl) }
 
--- the children from place k on, and then the targets
-abbrev pub rests : List ℕ → ℕ → ℕ → ℕ → ℕ → ℕ → ℕ → Bool
-rests children from other rank k last own = lower (drop k (take rank (drop from children)) ++ (last ∷ [])) (drop k (take rank (drop other children)) ++ (own ∷ []))
+module _ {above own : List ℕ} {last mine : ℕ} {whole : Bool} (left : Left above own last mine whole) where
+  module _ {x y : ℕ} {xs ys : List ℕ} (a : above ≡ x ∷ xs) (b : own ≡ y ∷ ys) where
+    opened : lower (x ∷ (xs ++ (last ∷ []))) (y ∷ (ys ++ (mine ∷ []))) ≡ whole
+    opened = rw (a, b) at left.decides
 
-module _ (children : List ℕ) (from other rank k last own : ℕ) where
-  pub rests_agree : k < rank → from + rank ≤ length children → other + rank ≤ length children
-      → get_or children (from + k) 0 ≡ get_or children (other + k) 0 → rests children from other rank k last own ≡ rests children from other rank (k + 1) last own
-  rests_agree h f g e =
-      rw (rest_opens children from rank k h f, rest_opens children other rank k h g, eq-eqb (get_or children (from + k) 0) (get_or children (other + k) 0) e)
+    pub left_differs : (x ≡ y → ⊥) → ltb x y ≡ whole
+    left_differs n = rw (ne_eqb x y n) at opened
 
-  pub rests_differ : k < rank → from + rank ≤ length children → other + rank ≤ length children
-      → (get_or children (from + k) 0 ≡ get_or children (other + k) 0 → ⊥) → rests children from other rank k last own ≡ ltb (get_or children (from + k) 0) (get_or children (other + k) 0)
-  rests_differ h f g n =
-      rw (rest_opens children from rank k h f, rest_opens children other rank k h g, ne_eqb (get_or children (from + k) 0) (get_or children (other + k) 0) n)
+    pub left_agrees : x ≡ y → Left xs ys last mine whole
+    left_agrees e = let as_many = rw (a, b) at left.as_many in record { as_many = omega arith; decides = rw (eq-eqb x y e) at opened }
 
-  pub rests_end : rank ≤ k → rests children from other rank k last own ≡ ltb last own
-  rests_end h = rw (rest_ends children from rank k h, rest_ends children other rank k h) (lower_one last own)
+  pub left_ends : length above ≡ 0 → ltb last mine ≡ whole
+  left_ends h = go above own h left.as_many left.decides
+    where
+      go : (xs ys : List ℕ) → length xs ≡ 0 → length xs ≡ length ys → lower (xs ++ (last ∷ [])) (ys ++ (mine ∷ [])) ≡ whole → ltb last mine ≡ whole
+      go [] [] h e d = sym (lower_one last mine) ∙ d
+      go [] (y ∷ ys) h e d = absurd (omega arith)
+      go (x ∷ xs) ys h e d = absurd (omega arith)

@@ -1,26 +1,28 @@
 -- The invariant of the loop that reads the transitions: the rows in the columns so far, and what the definition finds from here on,
 -- make up what the definition finds as a whole.
-use Prim.Native.Nat.{ℕ, zero, suc, ◌+◌, ◌-◌, ◌*◌, ◌≤◌, ◌<◌}
-use mathlib.Core.Path.{◌≡◌, refl, sym, ap, ◌∙◌, subst}
-use mathlib.Core.Bool.{true, false}
-use mathlib.Core.List.{List, [], ◌∷◌, ◌++◌, append-nil}
-use native.Mathlib.Omega.{arith}
-use native.Mathlib.Nat.{sub-zero, add-zero, zero-add}
-use native.Mathlib.Numerals.{add-one}
-use lib.ListN.{take, drop, get_or}
-use lib.Seq.{get_or-take}
+use Rattle.std.proofs.Common.{ℕ, zero, suc, ◌+◌, ◌-◌, ◌*◌, ◌≤◌, ◌<◌, ◌≡◌, refl, sym, ap, ◌∙◌, true, false, List, [], ◌∷◌, ◌++◌, take, drop, get_or, append_assoc, append-nil, add-one, add-zero, zero-add, arith}
+use Rattle.std.proofs.Math.Nat.{sub-zero}
+use Rattle.std.proofs.lemmas.List.{get_or-take}
 use Rattle.answers.specs.declared.Refusal.{Refusal}
 use Rattle.answers.specs.declared.Refusal.TheVariants.{NotAbove}
-use Rattle.numbers.specs.declared.Cursor.{Cursor}
 use Rattle.model.specs.Table.{Transition, key, lower}
 use Rattle.format.specs.Read.{Found, found, refused, after, transition_at, transitions_at}
-use Rattle.tables.specs.Record.{Columns, row_at, rows_from, key_before}
-use Rattle.tables.specs.Rows.{part_of_front}
-use Rattle.tables.specs.Steps.{Small, Kept, Long, RowRead, above_at, RowsRead}
-use Rattle.tables.specs.declared.Step.{Step}
-use Rattle.tables.specs.declared.Step.TheVariants.{Next, Refused}
-use Rattle.tables.proofs.After.{after_after, after_provided}
-use Rattle.tables.proofs.Filling.{prefixed, prefixed_none, prefixed_prefixed}
+use Rattle.tables.specs.Record.{Columns, row_at, rows_from}
+use Rattle.tables.specs.Rows.{key_below, part_of_front}
+use Rattle.tables.specs.Steps.{Small, Kept}
+
+-- what was found so far, in front of what is found from here on
+abbrev pub prefixed : {A : Type 0} → List A → Found (List A) → Found (List A)
+prefixed xs (found ys end) = found (xs ++ ys) end
+prefixed xs (refused refusal) = refused refusal
+
+pub prefixed_none : {A : Type 0} (r : Found (List A)) → prefixed [] r ≡ r
+prefixed_none (found ys end) = refl
+prefixed_none (refused refusal) = refl
+
+pub prefixed_prefixed : {A : Type 0} (xs ys : List A) (r : Found (List A)) → prefixed xs (prefixed ys r) ≡ prefixed (xs ++ ys) r
+prefixed_prefixed xs ys (found zs end) = ap (λ (l : List _). found l end) (sym (append_assoc xs ys zs))
+prefixed_prefixed xs ys (refused refusal) = refl
 
 -- rows of the columns
 rows_same : (c d : Columns) (m k : ℕ) → ((i : ℕ) → m ≤ i → i < m + k → row_at c i ≡ row_at d i) → rows_from c m k ≡ rows_from d m k
@@ -56,129 +58,78 @@ module _ (before columns : Columns) (j : ℕ) (kept : Kept j before columns) (sm
   rows_kept : rows_from columns 0 j ≡ rows_from before 0 j
   rows_kept = rows_same columns before 0 j (λ i p q. row_same i (omega arith))
 
-abbrev pub key_below : Columns → ℕ → List ℕ
-key_below c j = key_before c.ranks c.symbol c.children c.target j
-
 key_kept : (before columns : Columns) (j : ℕ) → Kept j before columns → Small before.ranks → key_below columns j ≡ key_below before j
 key_kept before columns zero kept small = refl
 key_kept before columns (suc j) kept small = ap key (row_same before columns (suc j) kept small j (omega arith))
 
--- what a row's step says of what the definition finds
-pub record RowWent (x : Found Transition) (j : ℕ) (before columns : Columns) (next : Cursor) : Type 0 where
-  pub seen : x ≡ found (row_at columns j) next.at
-  pub known : get_or columns.symbol j 0 < 128
-  pub kept : Kept j before columns
-  pub long : Long columns
-
-pub row_next : (x : Found Transition) (j : ℕ) (before columns : Columns) (step : Step) (next : Cursor) → RowRead x j before columns step → step ≡ Next next → RowWent x j before columns next
-row_next (found t end) j before columns step next r e =
-    let same : ◌≡◌ {A = Cursor} (record { at = end }) next = cc (r.0, e) in
-    record { seen = ap (λ (c : Cursor). found t c.at) same ∙ ap (λ (u : Transition). found u next.at) (sym r.1); known = r.2; kept = r.3; long = r.4 }
-row_next (refused refusal) j before columns step next r e = absurd (let z : ◌≡◌ {A = ℕ} 0 1 = cc (r, e) in omega arith)
-
-pub row_refused : (x : Found Transition) (j : ℕ) (before columns : Columns) (step : Step) (refusal : Refusal) → RowRead x j before columns step → step ≡ Refused refusal → x ≡ refused refusal
-row_refused (found t end) j before columns step refusal r e = absurd (let z : ◌≡◌ {A = ℕ} 0 1 = cc (r.0, e) in omega arith)
-row_refused (refused other) j before columns step refusal r e = let same : other ≡ refusal = cc (r, e) in ap refused same
-
--- a row that was read is tested against the one before
-module _ (s ranks : List ℕ) (states at j : ℕ) (before columns : Columns) (next : Cursor) (went : RowWent (transition_at s ranks states at) j before columns next) (small : Small before.ranks) where
-  pub row_above : lower (key_below columns j) (key (row_at columns j)) ≡ true → RowRead (above_at s ranks states (key_below before j) at) j before columns (Next next)
-  row_above high =
-      let high' : lower (key_below before j) (key (row_at columns j)) ≡ true = rw (key_kept before columns j went.kept small) at high in
-      rw (went.seen, high') (refl, refl, went.known, went.kept, went.long)
-
-  pub row_not_above : lower (key_below columns j) (key (row_at columns j)) ≡ false → RowRead (above_at s ranks states (key_below before j) at) j before columns (Refused (NotAbove at))
-  row_not_above low =
-      let low' : lower (key_below before j) (key (row_at columns j)) ≡ false = rw (key_kept before columns j went.kept small) at low in
-      rw (went.seen, low') refl
-
+-- the transitions from one on
 module _ (s ranks : List ℕ) (states : ℕ) where
   behind_one : (t : Transition) (r : Found (List Transition)) → after r (λ ts end. found (t ∷ ts) end) ≡ prefixed (t ∷ []) r
   behind_one t (found ts end) = refl
   behind_one t (refused refusal) = refl
 
-  -- the transitions from one on, by the one that is above the last
-  transitions_open : (k at : ℕ) (before : List ℕ)
-      → transitions_at s ranks states (suc k) before at
-      ≡ after (above_at s ranks states before at) (λ t next. after (transitions_at s ranks states k (key t) next) (λ ts end. found (t ∷ ts) end))
-  unfolding transitions_at
-  transitions_open k at before = simp (after_after, after_provided)
-
-  transitions_found : (k at next : ℕ) (before : List ℕ) (t : Transition) → above_at s ranks states before at ≡ found t next
-      → transitions_at s ranks states (suc k) before at ≡ prefixed (t ∷ []) (transitions_at s ranks states k (key t) next)
-  transitions_found k at next before t e = transitions_open k at before ∙ rw e (behind_one t (transitions_at s ranks states k (key t) next))
-
-  transitions_refused : (k at : ℕ) (before : List ℕ) (refusal : Refusal) → above_at s ranks states before at ≡ refused refusal
-      → transitions_at s ranks states (suc k) before at ≡ refused refusal
-  transitions_refused k at before refusal e = transitions_open k at before ∙ rw e
-
   transitions_none : (at : ℕ) (before : List ℕ) → transitions_at s ranks states 0 before at ≡ found [] at
   unfolding transitions_at
   transitions_none at before = refl
 
--- j of the transitions are read into the columns, and the next place is `at`
+  module _ (k at : ℕ) (before : List ℕ) where
+    transitions_refused : (refusal : Refusal) → transition_at s ranks states at ≡ refused refusal → transitions_at s ranks states (suc k) before at ≡ refused refusal
+    unfolding transitions_at
+    transitions_refused refusal e = rw e
+
+    module _ (t : Transition) (next : ℕ) (e : transition_at s ranks states at ≡ found t next) where
+      transitions_found : lower before (key t) ≡ true → transitions_at s ranks states (suc k) before at ≡ prefixed (t ∷ []) (transitions_at s ranks states k (key t) next)
+      unfolding transitions_at
+      transitions_found above = rw (e, above) (behind_one t (transitions_at s ranks states k (key t) next))
+
+      transitions_fall : lower before (key t) ≡ false → transitions_at s ranks states (suc k) before at ≡ refused (NotAbove at)
+      unfolding transitions_at
+      transitions_fall below = rw (e, below)
+
+-- j of `count` transitions are read into the columns, and the next place is `at`
 pub record Rowing (s ranks : List ℕ) (states count start : ℕ) (columns : Columns) (j at : ℕ) : Type 0 where
-  pub some : j ≤ count
-  pub long : Long columns
   pub rest : prefixed (rows_from columns 0 j) (transitions_at s ranks states (count - j) (key_below columns j) at) ≡ transitions_at s ranks states count [] start
 
 module _ (s ranks : List ℕ) (states count start : ℕ) where
-  pub rowing_starts : (columns : Columns) → Long columns → Rowing s ranks states count start columns 0 start
+  pub rowing_starts : (columns : Columns) → Rowing s ranks states count start columns 0 start
   unfolding rows_from
-  rowing_starts columns long =
-      record { some = omega arith; long = long; rest = rw (sub-zero count) (prefixed_none (transitions_at s ranks states count [] start)) }
+  rowing_starts columns = record { rest = rw (sub-zero count) (prefixed_none (transitions_at s ranks states count [] start)) }
 
-  module _ (before columns : Columns) (j at : ℕ) (so_far : Rowing s ranks states count start before j at) (more : j < count) where
+  module _ (before : Columns) (j at : ℕ) (so_far : Rowing s ranks states count start before j at) (more : j < count) where
     one_less : count - j ≡ suc (count - (j + 1))
     one_less = omega arith
 
-    pub rowing_refused : (refusal : Refusal) → above_at s ranks states (key_below before j) at ≡ refused refusal
-        → RowsRead (transitions_at s ranks states count [] start) count columns (Refused refusal)
-    rowing_refused refusal e =
-        let whole : refused refusal ≡ transitions_at s ranks states count [] start =
-        rw (one_less, transitions_refused s ranks states (count - (j + 1)) at (key_below before j) refusal e) at so_far.rest in
-        subst (λ (r : Found (List Transition)). RowsRead r count columns (Refused refusal)) whole refl
+    -- no transition is found, and that is the answer
+    pub rowing_refused : (refusal : Refusal) → transition_at s ranks states at ≡ refused refusal → transitions_at s ranks states count [] start ≡ refused refusal
+    rowing_refused refusal e = sym (rw (one_less, transitions_refused s ranks states (count - (j + 1)) at (key_below before j) refusal e) at so_far.rest)
 
-    pub rowing_goes_on : (next : Cursor) → RowWent (above_at s ranks states (key_below before j) at) j before columns next → Small before.ranks
-        → Rowing s ranks states count start columns (j + 1) next.at
-    rowing_goes_on next went small =
-        let rows : rows_from columns 0 (j + 1) ≡ rows_from before 0 j ++ (row_at columns j ∷ []) =
-        rw (add-one j, rows_snoc columns 0 j, zero-add j, rows_kept before columns j went.kept small) in
-        let below : key_below columns (j + 1) ≡ key (row_at columns j) = rw (add-one j) in
-        record {
-          some = omega arith;
-          long = went.long;
-          rest =
-              rw (
-                rows,
-                below,
-                ← prefixed_prefixed (rows_from before 0 j) (row_at columns j ∷ []) (transitions_at s ranks states (count - (j + 1)) (key (row_at columns j)) next.at),
-                ← transitions_found s ranks states (count - (j + 1)) at next.at (key_below before j) (row_at columns j) went.seen,
-                ← one_less,
-              )
-              so_far.rest;
-        }
+    -- transition j is found, and is row j of the columns
+    module _ (columns : Columns) (next : ℕ) (e : transition_at s ranks states at ≡ found (row_at columns j) next) (kept : Kept j before columns) (small : Small before.ranks) where
+      pub rowing_falls : lower (key_below columns j) (key (row_at columns j)) ≡ false → transitions_at s ranks states count [] start ≡ refused (NotAbove at)
+      rowing_falls low =
+          let low' : lower (key_below before j) (key (row_at columns j)) ≡ false = rw (key_kept before columns j kept small) at low in
+          sym (rw (one_less, transitions_fall s ranks states (count - (j + 1)) at (key_below before j) (row_at columns j) next e low') at so_far.rest)
 
-  pub rowing_ends : (columns : Columns) (j at : ℕ) → Rowing s ranks states count start columns j at → count ≤ j
-      → RowsRead (transitions_at s ranks states count [] start) count columns (Next (record { at = at }))
-  rowing_ends columns j at so_far h =
-      let some = so_far.some in
-      let all : j ≡ count = omega arith in
+      pub rowing_goes_on : lower (key_below columns j) (key (row_at columns j)) ≡ true → Rowing s ranks states count start columns (j + 1) next
+      rowing_goes_on high =
+          let high' : lower (key_below before j) (key (row_at columns j)) ≡ true = rw (key_kept before columns j kept small) at high in
+          let rows : rows_from columns 0 (j + 1) ≡ rows_from before 0 j ++ (row_at columns j ∷ []) =
+          rw (add-one j, rows_snoc columns 0 j, zero-add j, rows_kept before columns j kept small) in
+          let below : key_below columns (j + 1) ≡ key (row_at columns j) = rw (add-one j) in
+          record {
+            rest =
+                rw (
+                  rows,
+                  below,
+                  ← prefixed_prefixed (rows_from before 0 j) (row_at columns j ∷ []) (transitions_at s ranks states (count - (j + 1)) (key (row_at columns j)) next),
+                  ← transitions_found s ranks states (count - (j + 1)) at (key_below before j) (row_at columns j) next e high',
+                  ← one_less,
+                )
+                so_far.rest;
+          }
+
+  pub rowing_ends : (columns : Columns) (j at : ℕ) → Rowing s ranks states count start columns j at → j ≡ count
+      → transitions_at s ranks states count [] start ≡ found (rows_from columns 0 count) at
+  rowing_ends columns j at so_far all =
       let none : count - j ≡ 0 = omega arith in
-      let whole : found (rows_from columns 0 j ++ []) at ≡ transitions_at s ranks states count [] start =
-      rw (none, transitions_none s ranks states at (key_below columns j)) at so_far.rest in
-      subst (λ (r : Found (List Transition)). RowsRead r count columns (Next (record { at = at }))) whole
-      (refl, rw (append-nil, all))
-
--- what the step of all rows says of what the definition finds
-pub rows_next : (x : Found (List Transition)) (count : ℕ) (columns : Columns) (step : Step) (next : Cursor) → RowsRead x count columns step → step ≡ Next next
-    → x ≡ found (rows_from columns 0 count) next.at
-rows_next (found ts end) count columns step next r e =
-    let same : ◌≡◌ {A = Cursor} (record { at = end }) next = cc (r.0, e) in
-    ap (λ (c : Cursor). found ts c.at) same ∙ ap (λ (us : List Transition). found us next.at) (sym r.1)
-rows_next (refused refusal) count columns step next r e = absurd (let z : ◌≡◌ {A = ℕ} 0 1 = cc (r, e) in omega arith)
-
-pub rows_refused : (x : Found (List Transition)) (count : ℕ) (columns : Columns) (step : Step) (refusal : Refusal) → RowsRead x count columns step → step ≡ Refused refusal
-    → x ≡ refused refusal
-rows_refused (found ts end) count columns step refusal r e = absurd (let z : ◌≡◌ {A = ℕ} 0 1 = cc (r.0, e) in omega arith)
-rows_refused (refused other) count columns step refusal r e = let same : other ≡ refusal = cc (r, e) in ap refused same
+      sym (rw (none, transitions_none s ranks states at (key_below columns j), append-nil, all) at so_far.rest)

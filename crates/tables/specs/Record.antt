@@ -1,5 +1,7 @@
 -- Which table a table record is.
 use Rattle.std.specs.Prelude.{ℕ, zero, suc, ◌*◌, ◌≡◌, List, [], ◌∷◌, length, get_or, take, drop}
+use Rattle.std.proofs.Common.{ap}
+use Rattle.theory.specs.Arithmetic.{arithmetic_number}
 use Rattle.model.specs.Table.{Table, Transition, key}
 use Rattle.tables.specs.declared.TableRecord.{TableRecord}
 
@@ -50,9 +52,12 @@ table_in arithmetic states symbols count finals c =
 
 -- the table that a record is
 abbrev pub table_of : TableRecord → Table
-table_of r = table_in r.arithmetic r.states r.symbols r.count r.finals (columns r.ranks r.symbol r.children r.target r.code)
+table_of r = table_in (arithmetic_number r.arithmetic) r.states r.symbols r.count r.finals (columns r.ranks r.symbol r.children r.target r.code)
 
 -- this record is that table
 pub record Holds (r : TableRecord) (X : Table) : Type 0 where
   pub table : table_of r ≡ X
   pub symbols : r.symbols ≡ length X.ranks
+
+pub states_of : (r : TableRecord) (X : Table) → Holds r X → r.states ≡ X.states
+states_of r X h = ap (λ (Y : Table). Y.states) h.table

@@ -4,7 +4,7 @@ use Rattle.std.proofs.Common.{ap, arith, take-take}
 use Rattle.std.proofs.Math.Decide.{dec_le}
 use Rattle.std.proofs.Math.Seq.{take-nil}
 use Rattle.model.specs.Table.{Transition, Each}
-use Rattle.tables.specs.Record.{Columns, columns, row_at, rows_from}
+use Rattle.tables.specs.Record.{Columns, columns, row_at, rows_from, key_before}
 use Rattle.tables.specs.declared.TableRecord.{TableRecord}
 
 -- transition j can be read: its symbol has a rank of at most 4
@@ -13,8 +13,16 @@ pub record Row (ranks symbol : List ℕ) (j : ℕ) : Type 0 where
   pub known : get_or symbol j 0 < 128
   pub rank_small : get_or ranks (get_or symbol j 0) 0 ≤ 4
 
+-- the same of a record
+abbrev pub RowIn : TableRecord → ℕ → Type 0
+RowIn t j = Row t.ranks t.symbol j
+
 abbrev pub columns_of : TableRecord → Columns
 columns_of r = columns r.ranks r.symbol r.children r.target r.code
+
+-- the key of the transition before transition j; below the first stands the empty key
+abbrev pub key_below : Columns → ℕ → List ℕ
+key_below c j = key_before c.ranks c.symbol c.children c.target j
 
 pub rows_length : (c : Columns) (m k : ℕ) → length (rows_from c m k) ≡ k
 unfolding rows_from

@@ -1,34 +1,33 @@
--- What each step of the reader leaves in the arrays that it fills.
-use Rattle.std.specs.Prelude.{ℕ, ◌≤◌, ◌<◌, ◌*◌, ◌≡◌, List, length, get_or, take, drop, set}
-use Rattle.answers.specs.declared.Refusal.TheVariants.{NotAbove}
-use Rattle.numbers.specs.declared.NumberRead.{NumberRead}
-use Rattle.numbers.specs.declared.NumberRead.TheVariants as number
-use Rattle.format.specs.Read.{Found, found, refused, after, provided, any, within, one_of, listed, many, transition_at, table_read}
-use Rattle.model.specs.Table.{Table, Transition, key, lower}
-use Rattle.tables.specs.Record.{Columns, row_at, rows_from, table_in, Holds}
-use Rattle.tables.specs.declared.Header.{Header}
-use Rattle.tables.specs.declared.HeaderRead.{HeaderRead}
-use Rattle.tables.specs.declared.HeaderRead.TheVariants as header
-use Rattle.tables.specs.declared.BodyRead.{BodyRead}
-use Rattle.tables.specs.declared.BodyRead.TheVariants as body
-use Rattle.tables.specs.declared.Outcome.{Outcome}
-use Rattle.tables.specs.declared.Reading.{Reading}
-use Rattle.answers.specs.declared.Answer.TheVariants as answer
-use Rattle.tables.specs.declared.StateRead.{StateRead}
-use Rattle.tables.specs.declared.StateRead.TheVariants as state
-use Rattle.tables.specs.declared.Step.{Step}
-use Rattle.tables.specs.declared.Step.TheVariants.{Next, Refused}
+-- What each step of the reader leaves in the record that it fills.
+use Rattle.std.specs.Prelude.{ℕ, ◌≤◌, ◌*◌, ◌≡◌, List, [], ◌∷◌, ◌⊎◌, length, get_or, take, refl, Result, Ok, Err}
+use Rattle.std.proofs.Common.{sym, ap}
+use Rattle.answers.specs.declared.Refusal.{Refusal}
+use Rattle.numbers.specs.declared.Cursor.{Cursor}
+use Rattle.theory.specs.declared.Arithmetic.{Arithmetic}
+use Rattle.theory.specs.Arithmetic.{arithmetic_number}
+use Rattle.format.specs.Read.{Found, found, refused, any, within, many, table_read}
+use Rattle.model.specs.Table.{Table}
+use Rattle.tables.specs.Record.{Columns, Holds}
+use Rattle.tables.specs.declared.TableRecord.{TableRecord}
 
--- a state that was read, as its number
-abbrev pub state_found : StateRead → Found ℕ
-state_found (state.Read q next) = found q.0 next.at
-state_found (state.Refused refusal) = refused refusal
+-- an arithmetic that was read, as its number
+abbrev pub arithmetic_found : Result (Arithmetic × Cursor) Refusal → Found ℕ
+arithmetic_found (Ok (a, next)) = found (arithmetic_number a) next.at
+arithmetic_found (Err refusal) = refused refusal
 
--- the numbers found stand in the array from a place on, and what stood before that place is as it was; or the refusal is answered
-abbrev pub Filled : Found (List ℕ) → ℕ → List ℕ → List ℕ → Step → Type 0
-Filled (found ns end) from before array step =
-    (step ≡ Next (record { at = end })) × (take (length ns) (drop from array) ≡ ns) × (take from array ≡ take from before) × (length array ≡ length before)
-Filled (refused refusal) from before array step = step ≡ Refused refusal
+-- what was read into the record is what is found, up to the next place; or the refusal is answered
+abbrev pub Finds : {A : Type 0} → Found A → A → Result Cursor Refusal → Type 0
+Finds x a (Ok next) = x ≡ found a next.at
+Finds x a (Err refusal) = x ≡ refused refusal
+
+-- values read one after another from a place on, each by a call that says so: all of them, up to the next place, or the first refusal
+abbrev pub ReadEach : {A : Type 0} → (Cursor → Result (A × Cursor) Refusal → Type 0) → List A → Cursor → Result Cursor Refusal → Type 0
+ReadEach read [] at result = result ≡ Ok at
+ReadEach read (a ∷ rest) at result =
+    ((next : Cursor) × read at (Ok (a, next)) × ReadEach read rest next result) ⊎ ((refusal : Refusal) × read at (Err refusal) × (result ≡ Err refusal))
+
+pub record ReadAll {A : Type 0} (read : Cursor → Result (A × Cursor) Refusal → Type 0) (values : List A) (at : Cursor) (result : Result Cursor Refusal) : Type 0 where
+  pub each : ReadEach read values at result
 
 -- every rank is at most 4
 abbrev pub Small : List ℕ → Type 0
@@ -50,80 +49,46 @@ pub record Kept (j : ℕ) (before columns : Columns) : Type 0 where
   pub target : take j columns.target ≡ take j before.target
   pub code : take j columns.code ≡ take j before.code
 
--- the transition found is transition j of the columns, and those before it are as they were; or the refusal is answered
-abbrev pub RowRead : Found Transition → ℕ → Columns → Columns → Step → Type 0
-RowRead (found t end) j before columns step =
-    (step ≡ Next (record { at = end })) × (row_at columns j ≡ t) × (get_or columns.symbol j 0 < 128) × Kept j before columns × Long columns
-RowRead (refused refusal) j before columns step = step ≡ Refused refusal
+-- all but the transitions is as it was
+pub record HeadKept (before now : TableRecord) : Type 0 where
+  pub arithmetic : now.arithmetic ≡ before.arithmetic
+  pub states : now.states ≡ before.states
+  pub symbols : now.symbols ≡ before.symbols
+  pub count : now.count ≡ before.count
+  pub ranks : now.ranks ≡ before.ranks
+  pub finals : now.finals ≡ before.finals
 
--- what stands behind the children of a transition: its target and its code
-pub record Ending : Type 0 where
-  pub target : ℕ
-  pub code : ℕ
-
-abbrev pub ending_at : List ℕ → ℕ → ℕ → Found Ending
-ending_at s states at =
-    after (one_of s states at) (λ target next. after (listed s next) (λ code end. found (record { target = target; code = code }) end))
-
--- the target and the code found are those of transition j, and the others are as they were; or the refusal is answered
-abbrev pub EndingRead : Found Ending → ℕ → List ℕ → List ℕ → List ℕ → List ℕ → Step → Type 0
-EndingRead (found e end) j targets target codes code step =
-    (step ≡ Next (record { at = end })) × (target ≡ set targets j e.target) × (code ≡ set codes j e.code)
-EndingRead (refused refusal) j targets target codes code step = step ≡ Refused refusal
-
--- a transition that is above the one before, whose key is given
-abbrev pub above_at : List ℕ → List ℕ → ℕ → List ℕ → ℕ → Found Transition
-above_at s ranks states before at =
-    after (transition_at s ranks states at) (λ t next. provided (lower before (key t)) (NotAbove at) (found t next))
-
--- the transitions found are the first so many of the columns; or the refusal is answered
-abbrev pub RowsRead : Found (List Transition) → ℕ → Columns → Step → Type 0
-RowsRead (found ts end) count columns step = (step ≡ Next (record { at = end })) × (rows_from columns 0 count ≡ ts)
-RowsRead (refused refusal) count columns step = step ≡ Refused refusal
-
--- the three numbers of the header, one behind the other
-pub record HeaderFound (s : List ℕ) (h : Header) : Type 0 where
+-- all that stands before the transitions is in the record, and the transitions begin at `next`
+pub record HeadFound (s : List ℕ) (t : TableRecord) (next : ℕ) : Type 0 where
   pub second : ℕ
   pub third : ℕ
-  pub arithmetic : within s 0 1 0 ≡ found h.arithmetic second
-  pub states : within s 1 256 second ≡ found h.states third
-  pub symbols : within s 1 128 third ≡ found h.symbols h.next.at
-
-abbrev pub HeaderIs : List ℕ → HeaderRead → Type 0
-HeaderIs s (header.Read h) = HeaderFound s h
-HeaderIs s (header.Refused refusal) = table_read s ≡ refused refusal
-
--- the ranks and the final codes are in the arrays, and the number of transitions stands behind them
-pub record FrontFound (s : List ℕ) (h : Header) (ranks finals : List ℕ) (count next : ℕ) : Type 0 where
   pub fourth : ℕ
   pub fifth : ℕ
-  pub ranks_found : many (within s 0 4) h.symbols h.next.at ≡ found (take h.symbols ranks) fourth
-  pub finals_found : many (any s) h.states fourth ≡ found (take h.states finals) fifth
-  pub count_found : within s 0 4000 fifth ≡ found count next
-  pub small : Small ranks
-  pub long : length ranks ≡ 128
+  pub sixth : ℕ
+  pub arithmetic : within s 0 1 0 ≡ found (arithmetic_number t.arithmetic) second
+  pub states : within s 1 256 second ≡ found t.states third
+  pub symbols : within s 1 128 third ≡ found t.symbols fourth
+  pub ranks : many (within s 0 4) t.symbols fourth ≡ found (take t.symbols t.ranks) fifth
+  pub finals : many (any s) t.states fifth ≡ found (take t.states t.finals) sixth
+  pub count : within s 0 4000 sixth ≡ found t.count next
+  pub symbols_fit : t.symbols ≤ length t.ranks
 
-abbrev pub FrontIs : List ℕ → Header → List ℕ → List ℕ → NumberRead → Type 0
-FrontIs s h ranks finals (number.Number count next) = FrontFound s h ranks finals count next.at
-FrontIs s h ranks finals (number.Refused refusal) = table_read s ≡ refused refusal
-
--- the whole table is in the arrays
-pub record BodyFound (s : List ℕ) (h : Header) (finals : List ℕ) (columns : Columns) (count : ℕ) : Type 0 where
-  pub end : ℕ
-  pub table : table_read s ≡ found (table_in h.arithmetic h.states h.symbols count finals columns) end
-  pub symbols : h.symbols ≡ length (take h.symbols columns.ranks)
-
-abbrev pub BodyIs : List ℕ → Header → List ℕ → Columns → BodyRead → Type 0
-BodyIs s h finals columns (body.Count count) = BodyFound s h finals columns count
-BodyIs s h finals columns (body.Refused refusal) = table_read s ≡ refused refusal
-
--- the outcome's numbers and the arrays are the table that the bytes are, or the refusal is answered
-abbrev pub OutcomeIs : Found Table → List ℕ → Columns → Outcome → Type 0
-OutcomeIs (found X end) finals columns o =
-    (o.answer ≡ answer.Done X.states) × (table_in o.arithmetic o.states o.symbols o.count finals columns ≡ X) × (o.symbols ≡ length X.ranks)
-OutcomeIs (refused refusal) finals columns o = o.answer ≡ answer.Refused refusal
+abbrev pub HeadIs : List ℕ → TableRecord → Result Cursor Refusal → Type 0
+HeadIs s t (Ok next) = HeadFound s t next.at
+HeadIs s t (Err refusal) = table_read s ≡ refused refusal
 
 -- the reader's promise: the record is the table that the bytes are, or the refusal is the one that the definition gives
-abbrev pub ReadingIs : Found Table → Reading → Type 0
-ReadingIs (found X end) r = (r.answer ≡ answer.Done X.states) × Holds r.table X
-ReadingIs (refused refusal) r = r.answer ≡ answer.Refused refusal
+abbrev pub ReadingIs : Found Table → Result TableRecord Refusal → Type 0
+ReadingIs (found X end) (Ok t) = Holds t X
+ReadingIs (found X end) (Err refusal) = ⊥
+ReadingIs (refused refusal) (Ok t) = ⊥
+ReadingIs (refused refusal) (Err given) = given ≡ refusal
+
+-- a record that was read is the table that was found
+pub reading_found : (x : Found Table) (t : TableRecord) → ReadingIs x (Ok t) → (X : Table) × (end : ℕ) × (x ≡ found X end) × Holds t X
+reading_found (found X end) t h = (X, end, refl, h)
+reading_found (refused refusal) t h = absurd h
+
+pub reading_refused : (x : Found Table) (refusal : Refusal) → ReadingIs x (Err refusal) → x ≡ refused refusal
+reading_refused (found X end) refusal h = absurd h
+reading_refused (refused given) refusal h = ap refused (sym h)

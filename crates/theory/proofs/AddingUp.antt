@@ -13,7 +13,9 @@ use Rattle.theory.specs.Arithmetic.{arithmetic, meaning, code_of, code_of-meanin
 use Rattle.theory.specs.Blocks.{block_of, FirstUse, block_count_above, member, member_shares}
 use Rattle.theory.proofs.Blocks.{block_member}
 use Rattle.theory.specs.Bisimulation as General
-use Rattle.theory.specs.Direction.{Direction, backward, forward, Agree, Bisimulation, CoarsestBlocks}
+use Rattle.theory.specs.declared.Direction.{Direction}
+use Rattle.theory.specs.declared.Direction.TheVariants.{Backward as backward, Forward as forward}
+use Rattle.theory.specs.Direction.{Agree, Bisimulation, CoarsestBlocks}
 use Rattle.theory.proofs.Uses.{agreement}
 use Rattle.theory.specs.Entry.{key_at, key_at_parts, block_key, code_at, weight_at_key, Between, code_at_own, code_at_holds}
 use Rattle.theory.proofs.Entry.{weight_at_key_listed}

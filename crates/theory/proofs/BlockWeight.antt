@@ -12,7 +12,9 @@ use Rattle.theory.specs.Sum.{only, sum, sum_same, sum-met, only_and, only_holds}
 use Rattle.theory.specs.Below.{below, each_below}
 use Rattle.theory.specs.Arithmetic.{arithmetic, meaning, InRange, in_range_zero, in_range_meaning, in_range_sum}
 use Rattle.theory.specs.Weight.{final}
-use Rattle.theory.specs.Direction.{Direction, backward, forward, sum_from, sum_into, Bisimulation}
+use Rattle.theory.specs.declared.Direction.{Direction}
+use Rattle.theory.specs.declared.Direction.TheVariants.{Backward as backward, Forward as forward}
+use Rattle.theory.specs.Direction.{sum_from, sum_into, Bisimulation}
 use Rattle.theory.specs.Entry.{key_at, block_key}
 use Rattle.theory.specs.Collapse.{block_weight, block_final}
 use Rattle.theory.proofs.Laws.{laws}

@@ -6,8 +6,8 @@ use Rattle.model.specs.Table.{Table, Transition, Each, key}
 use Rattle.model.proofs.Each.{each_implies, each_map, each_member}
 use Rattle.theory.specs.Blocks.{block_of, FirstUse, block_count_above}
 use Rattle.theory.proofs.Blocks.{block_member, block_members}
-use Rattle.theory.specs.Direction.{Direction}
-use Rattle.theory.proofs.Direction.{coarsest_blocks_unique}
+use Rattle.theory.specs.declared.Direction.{Direction}
+use Rattle.theory.proofs.Directions.{coarsest_blocks_unique}
 use Rattle.theory.specs.Entry.{key_at, code_at, Between, transitions_unique}
 use Rattle.theory.specs.Collapse.{Collapsed, CollapsedByCoarsest}
 

@@ -14,7 +14,9 @@ use Rattle.theory.specs.Arithmetic.{arithmetic}
 use Rattle.theory.specs.Weight.{entering, leaving}
 use Rattle.theory.specs.Blocks.{block_of, FirstUse, first_use_own}
 use Rattle.theory.specs.Bisimulation as General
-use Rattle.theory.specs.Direction.{Direction, backward, forward, sum_from, sum_into, Agree, CoarsestBlocks}
+use Rattle.theory.specs.declared.Direction.{Direction}
+use Rattle.theory.specs.declared.Direction.TheVariants.{Backward as backward, Forward as forward}
+use Rattle.theory.specs.Direction.{sum_from, sum_into, Agree, CoarsestBlocks}
 use Rattle.theory.specs.Collapse.{Collapsed, CollapsedByCoarsest}
 use Rattle.theory.proofs.Collapse.{collapsed_by_coarsest_unique, block_known, blocks_known, state_member}
 use Rattle.theory.proofs.CollapseProper.{collapsed_by_coarsest_proper}

@@ -10,7 +10,7 @@ use Rattle.theory.specs.Equality.{lists}
 use Rattle.theory.specs.Arithmetic.{arithmetic, code_of, code_of_zero}
 use Rattle.theory.specs.Blocks.{block_of, FirstUse}
 use Rattle.theory.proofs.Blocks.{block_count_few}
-use Rattle.theory.specs.Direction.{Direction}
+use Rattle.theory.specs.declared.Direction.{Direction}
 use Rattle.theory.specs.Order.{list_order}
 use Rattle.theory.specs.Listing.{rising_few}
 use Rattle.theory.specs.Entry.{key_at, key_at_parts, block_key, code_at, Between, code_at_own, ascending_rising}

@@ -9,7 +9,9 @@ use Rattle.theory.specs.Grouping.{key_sum, key_sums_met}
 use Rattle.theory.specs.Arithmetic.{arithmetic, meaning, meaning-code_of}
 use Rattle.theory.specs.Weight.{entering, leaving, final}
 use Rattle.theory.specs.Blocks.{FirstUse}
-use Rattle.theory.specs.Direction.{Direction, backward, forward, sum_from, sum_into}
+use Rattle.theory.specs.declared.Direction.{Direction}
+use Rattle.theory.specs.declared.Direction.TheVariants.{Backward as backward, Forward as forward}
+use Rattle.theory.specs.Direction.{sum_from, sum_into}
 use Rattle.theory.specs.Entry.{key_at, Between, weight_at_key, entering_key_sum, leaving_key_sum}
 use Rattle.theory.proofs.Entry.{weight_at_key_listed}
 use Rattle.theory.specs.Collapse.{block_weight, block_final, Collapsed}

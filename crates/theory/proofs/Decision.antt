@@ -5,7 +5,8 @@ use store.Enc.{and_l, and_r}
 use Rattle.model.specs.Table.{Table, Proper}
 use Rattle.theory.specs.Arithmetic.{arithmetic}
 use Rattle.theory.specs.Blocks.{block_of, block_count, FirstUse}
-use Rattle.theory.specs.Direction.{Direction, CoarsestBlocks}
+use Rattle.theory.specs.declared.Direction.{Direction}
+use Rattle.theory.specs.Direction.{CoarsestBlocks}
 use Rattle.theory.specs.Uses.{uses, grade}
 use Rattle.theory.proofs.Uses.{uses_known}
 use Rattle.theory.proofs.Refinement.{coarsest_by_profile}

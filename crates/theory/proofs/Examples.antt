@@ -7,7 +7,9 @@ use Rattle.theory.specs.Arithmetic.{code_of}
 use Rattle.theory.specs.Weight.{weight_at, weight, value}
 use Rattle.theory.specs.Sheet.{sheet}
 use Rattle.theory.specs.Blocks.{block_of, block_count, member}
-use Rattle.theory.specs.Direction.{Direction, backward, forward, CoarsestBlocks}
+use Rattle.theory.specs.declared.Direction.{Direction}
+use Rattle.theory.specs.declared.Direction.TheVariants.{Backward as backward, Forward as forward}
+use Rattle.theory.specs.Direction.{CoarsestBlocks}
 use Rattle.theory.specs.Uses.{uses}
 use Rattle.theory.proofs.Decision.{coarsest_test_sound}
 use Rattle.theory.specs.Entry.{block_key, code_at}

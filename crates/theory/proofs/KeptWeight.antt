@@ -15,7 +15,9 @@ use Rattle.theory.specs.Words.{words, each_words, sum_words}
 use Rattle.theory.specs.Arithmetic.{arithmetic, Weight, meaning, value_of}
 use Rattle.theory.specs.Weight.{entering, leaving, final, weight_at, product_at, weight, value}
 use Rattle.theory.specs.Blocks.{block_of, FirstUse}
-use Rattle.theory.specs.Direction.{Direction, backward, forward, sum_into}
+use Rattle.theory.specs.declared.Direction.{Direction}
+use Rattle.theory.specs.declared.Direction.TheVariants.{Backward as backward, Forward as forward}
+use Rattle.theory.specs.Direction.{sum_into}
 use Rattle.theory.specs.Entry.{entering_key_sum, leaving_key_sum}
 use Rattle.theory.specs.Collapse.{Collapsed, CollapsedByCoarsest}
 use Rattle.theory.proofs.Collapse.{block_known, state_member}

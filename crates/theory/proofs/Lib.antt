@@ -6,7 +6,7 @@ pub mod KeptWeight
 pub mod OwnBlocks
 pub mod Blocks
 pub mod Bisimulation
-pub mod Direction
+pub mod Directions
 pub mod Collapse
 pub mod AddingUp
 pub mod Sequence

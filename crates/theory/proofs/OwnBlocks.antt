@@ -12,7 +12,9 @@ use Rattle.theory.specs.Weight.{final}
 use Rattle.theory.specs.Blocks.{FirstUse, block_count_own}
 use Rattle.theory.proofs.Blocks.{block_count_all}
 use Rattle.theory.specs.Bisimulation as General
-use Rattle.theory.specs.Direction.{Direction, backward, forward, Agree}
+use Rattle.theory.specs.declared.Direction.{Direction}
+use Rattle.theory.specs.declared.Direction.TheVariants.{Backward as backward, Forward as forward}
+use Rattle.theory.specs.Direction.{Agree}
 use Rattle.theory.proofs.Uses.{agreement}
 use Rattle.theory.specs.Entry.{key_at, block_key}
 use Rattle.theory.specs.Collapse.{block_final, Collapsed}

@@ -2,7 +2,8 @@
 use Rattle.std.specs.Prelude.{ℕ}
 use Rattle.model.specs.Table.{Table, Proper}
 use Rattle.theory.specs.Bisimulation as General
-use Rattle.theory.specs.Direction.{Direction, Agree, Coarsest}
+use Rattle.theory.specs.declared.Direction.{Direction}
+use Rattle.theory.specs.Direction.{Agree, Coarsest}
 use Rattle.theory.specs.Uses.{AgreeByProfile}
 use Rattle.theory.proofs.Uses.{agree_profile, profile_agree}
 

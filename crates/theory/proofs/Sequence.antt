@@ -4,7 +4,7 @@ use Rattle.std.proofs.Common.{◌∙◌}
 use Rattle.model.specs.Table.{Table, Proper}
 use Rattle.model.specs.Tree.{Tree}
 use Rattle.theory.specs.Weight.{value}
-use Rattle.theory.specs.Direction.{Direction}
+use Rattle.theory.specs.declared.Direction.{Direction}
 use Rattle.theory.specs.Collapse.{CollapsedByCoarsest}
 use Rattle.theory.proofs.CollapseProper.{collapsed_by_coarsest_proper}
 use Rattle.theory.proofs.KeptWeight.{collapsed_by_coarsest_value}

@@ -5,7 +5,8 @@ use Rattle.model.specs.Table.{Table, Proper}
 use Rattle.model.specs.Tree.{Tree}
 use Rattle.theory.specs.Weight.{value}
 use Rattle.theory.specs.Blocks.{block_of}
-use Rattle.theory.specs.Direction.{Direction, other}
+use Rattle.theory.specs.declared.Direction.{Direction}
+use Rattle.theory.specs.Direction.{other}
 use Rattle.theory.specs.Collapse.{CollapsedByCoarsest}
 use Rattle.theory.proofs.Collapse.{collapsed_by_coarsest_unique}
 use Rattle.theory.proofs.CollapseProper.{collapsed_by_coarsest_proper}

@@ -15,7 +15,9 @@ use Rattle.theory.specs.Below.{below, each_below, below_once}
 use Rattle.theory.specs.Arithmetic.{arithmetic, Weight, meaning}
 use Rattle.theory.specs.Weight.{leaving}
 use Rattle.theory.specs.Bisimulation.{Agreement}
-use Rattle.theory.specs.Direction.{Direction, backward, forward, sum_from, sum_into, AgreeForward, Agree}
+use Rattle.theory.specs.declared.Direction.{Direction}
+use Rattle.theory.specs.declared.Direction.TheVariants.{Backward as backward, Forward as forward}
+use Rattle.theory.specs.Direction.{sum_from, sum_into, AgreeForward, Agree}
 use Rattle.theory.specs.Profile.{Use, Key, key_of, keys, counted, profile, profile_met, alike_agreement}
 use Rattle.theory.specs.Uses.{others, use_into, use_at, uses, grade, AgreeByProfile}
 use Rattle.theory.proofs.Laws.{laws}

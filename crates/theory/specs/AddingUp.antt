@@ -7,7 +7,8 @@ use Rattle.theory.specs.Sum.{only}
 use Rattle.theory.specs.Grouping.{key_sum}
 use Rattle.theory.specs.Arithmetic.{arithmetic, Weight, meaning, code_of}
 use Rattle.theory.specs.Blocks.{block_count}
-use Rattle.theory.specs.Direction.{Direction, backward, forward}
+use Rattle.theory.specs.declared.Direction.{Direction}
+use Rattle.theory.specs.declared.Direction.TheVariants.{Backward as backward, Forward as forward}
 use Rattle.theory.specs.Entry.{block_key, weight_at_key}
 use Rattle.theory.specs.Collapse.{block_final, Shape}
 

@@ -1,7 +1,10 @@
 -- The two arithmetics, and what the codes 0 to 4,294,967,295 mean in each (document 01, "Two arithmetics").
-use Rattle.std.specs.Prelude.{◌≡◌, refl, ◌≢◌, ◌↔◌, Bool, true, false, cond, List, ℕ, zero, suc, ◌+◌, ◌*◌, ◌/◌, ◌%◌, ◌^◌, ◌<◌, ◌≤◌, eqb, ℤ, pos, negsuc, neg_ℤ, nat_abs}
+use Rattle.std.specs.Prelude.{◌≡◌, refl, ◌≢◌, ◌↔◌, Result, MatchResult, Bool, true, false, cond, List, ℕ, zero, suc, ◌+◌, ◌*◌, ◌/◌, ◌%◌, ◌^◌, ◌<◌, ◌≤◌, eqb, ℤ, pos, negsuc, neg_ℤ, nat_abs}
 use Rattle.std.proofs.Common.{sym, ap, ◌∙◌, arith, mod-eq_of_lt, eqb→eq}
 use Rattle.model.specs.Table.{Each}
+use Rattle.theory.specs.declared.Arithmetic.{Arithmetic}
+use Rattle.theory.specs.declared.Arithmetic.TheVariants.{Modular, MaxPlus}
+use Rattle.theory.specs.declared.NoArithmetic.{NoArithmetic}
 use Rattle.theory.specs.Equality.{numbers, false_differ, of_true}
 use Rattle.theory.specs.Semiring.{Operations}
 use Rattle.theory.specs.Sum.{sum, sum_holds}
@@ -13,6 +16,15 @@ use Rattle.theory.specs.MaxPlus.{max_plus, Value, nothing, number}
 abbrev pub arithmetic : ℕ → Operations
 arithmetic zero = modular
 arithmetic (suc a) = max_plus
+
+-- 0 for modular, 1 for max and plus
+abbrev pub arithmetic_number : Arithmetic → ℕ
+arithmetic_number Modular = 0
+arithmetic_number MaxPlus = 1
+
+-- a number from 0 to 1 is an arithmetic's, and no other is
+abbrev pub ArithmeticFor : ℕ → Result Arithmetic NoArithmetic → Type 0
+ArithmeticFor n r = MatchResult r (λ a. arithmetic_number a ≡ n) (λ none. (none.0 ≡ n) × (1 < n))
 
 -- the weights of an arithmetic
 abbrev pub Weight : ℕ → Type 0

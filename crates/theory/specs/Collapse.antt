@@ -7,7 +7,9 @@ use Rattle.theory.specs.Below.{below}
 use Rattle.theory.specs.Arithmetic.{arithmetic, Weight, code_of}
 use Rattle.theory.specs.Weight.{final}
 use Rattle.theory.specs.Blocks.{block_of, block_count}
-use Rattle.theory.specs.Direction.{Direction, backward, forward, sum_from, sum_into, CoarsestBlocks}
+use Rattle.theory.specs.declared.Direction.{Direction}
+use Rattle.theory.specs.declared.Direction.TheVariants.{Backward as backward, Forward as forward}
+use Rattle.theory.specs.Direction.{sum_from, sum_into, CoarsestBlocks}
 use Rattle.theory.specs.Entry.{key_at, code_at, Between}
 
 module _ (X : Table) (b : ℕ → ℕ) where

@@ -12,7 +12,7 @@ use Rattle.theory.specs.Semiring.{Operations, Laws}
 use Rattle.theory.specs.Arithmetic.{arithmetic}
 use Rattle.theory.specs.Blocks.{block_of, block_count}
 use Rattle.theory.specs.Bisimulation as General
-use Rattle.theory.specs.Direction.{Direction}
+use Rattle.theory.specs.declared.Direction.{Direction}
 use Rattle.theory.specs.Profile.{Use, key_of, profile, profile_met, Alike, alike_agreement}
 use Rattle.theory.specs.Uses.{uses, grade}
 

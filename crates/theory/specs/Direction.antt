@@ -1,5 +1,5 @@
 -- Backward and forward bisimulation of a table (document 01, "Definitions"; source 001, definitions 16 and 1).
-use Rattle.std.specs.Prelude.{◌≢◌, ◌≡◌, refl, List, ◌∷◌, ◌++◌, map, ℕ, zero, suc, ◌-◌, ◌≤◌, ◌<◌, eqb, length}
+use Rattle.std.specs.Prelude.{◌≢◌, ◌≡◌, refl, Result, MatchResult, List, ◌∷◌, ◌++◌, map, ℕ, zero, suc, ◌-◌, ◌≤◌, ◌<◌, eqb, length}
 use Rattle.std.proofs.Common.{ap, arith}
 use Rattle.model.specs.Table.{Table, Each}
 use Rattle.theory.specs.Equality.{same_list}
@@ -8,14 +8,18 @@ use Rattle.theory.specs.Arithmetic.{arithmetic, Weight}
 use Rattle.theory.specs.Weight.{entering, leaving, final}
 use Rattle.theory.specs.Blocks.{block_of, FirstUse}
 use Rattle.theory.specs.Bisimulation as General
-
-pub data Direction : Type 0 where
-  backward forward : Direction
+use Rattle.theory.specs.declared.NoDirection.{NoDirection}
+use Rattle.theory.specs.declared.Direction.{Direction}
+use Rattle.theory.specs.declared.Direction.TheVariants.{Backward as backward, Forward as forward}
 
 -- 0 for backward, 1 for forward
 abbrev pub direction : ℕ → Direction
 direction zero = backward
 direction (suc d) = forward
+
+-- a number from 0 to 1 is a direction's, and no other is
+abbrev pub DirectionFor : ℕ → Result Direction NoDirection → Type 0
+DirectionFor number r = MatchResult r (λ d. (d ≡ direction number) × (number ≤ 1)) (λ none. (none.0 ≡ number) × (1 < number))
 
 pub side_backward : (side : ℕ) → side ≡ 0 → direction side ≡ backward
 side_backward side e = ap direction e

@@ -6,7 +6,9 @@ use Rattle.theory.specs.MaxPlus.{number}
 use Rattle.theory.specs.Arithmetic.{meaning}
 use Rattle.theory.specs.Weight.{value}
 use Rattle.theory.specs.Sheet.{sheet}
-use Rattle.theory.specs.Direction.{Direction, backward, forward, CoarsestBlocks}
+use Rattle.theory.specs.declared.Direction.{Direction}
+use Rattle.theory.specs.declared.Direction.TheVariants.{Backward as backward, Forward as forward}
+use Rattle.theory.specs.Direction.{CoarsestBlocks}
 use Rattle.theory.specs.Collapse.{CollapsedByCoarsest}
 
 -- the symbols: a = 0 of rank 0, g = 1 of rank 1

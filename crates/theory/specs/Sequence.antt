@@ -1,6 +1,6 @@
 -- Sequences of collapses (demand 3).
 use Rattle.model.specs.Table.{Table}
-use Rattle.theory.specs.Direction.{Direction}
+use Rattle.theory.specs.declared.Direction.{Direction}
 use Rattle.theory.specs.Collapse.{CollapsedByCoarsest}
 
 -- collapses by coarsest blocks, each in its direction, one after another from X

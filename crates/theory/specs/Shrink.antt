@@ -1,7 +1,8 @@
 -- The shrink of a table from a named side (document 01, "Definitions").
 use Rattle.std.specs.Prelude.{◌≡◌}
 use Rattle.model.specs.Table.{Table}
-use Rattle.theory.specs.Direction.{Direction, other}
+use Rattle.theory.specs.declared.Direction.{Direction}
+use Rattle.theory.specs.Direction.{other}
 use Rattle.theory.specs.Collapse.{CollapsedByCoarsest}
 
 -- a collapse from X to Y that ends the shrink: it merges no states

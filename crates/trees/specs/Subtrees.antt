@@ -1,7 +1,7 @@
 -- The subtree that begins at each offset of a tree, for a loop that goes through the bytes from the right: where the finished trees begin, and
 -- which of them are the children of the next node.
 use Prim.Native.Nat.{ℕ, zero, suc, ◌+◌, ◌-◌, ◌≤◌, ◌<◌}
-use Rattle.std.specs.Prelude.{◌≡◌, length, take, drop}
+use Rattle.std.specs.Prelude.{Ok, ◌≡◌, length, take, drop}
 use Rattle.std.proofs.Math.Path.{refl, ap}
 use Rattle.std.proofs.Common.{sym, ◌∙◌, add-one, drop_of_length-le, drop-cons, drop-drop}
 use mathlib.Core.List.{List, [], ◌∷◌}
@@ -9,7 +9,6 @@ use native.Mathlib.Omega.{arith}
 use Rattle.std.proofs.Math.ListN.{get_or, length-drop}
 use Rattle.std.proofs.Math.Seq.{get_or-drop}
 use Rattle.model.specs.Tree.{Tree, Forest, node, none, ◌then◌, count}
-use Rattle.trees.specs.declared.TreeRead.TheVariants.{Nodes}
 use Rattle.trees.specs.Read.{tree_read}
 use Rattle.trees.specs.Forests.{take_trees, drop_trees, count_drop}
 use Rattle.trees.specs.Finished.{finished, tree_of, Supplied}
@@ -114,7 +113,7 @@ module _ (ranks bytes : List ℕ) (at : ℕ) where
       → (at ≤ get_or (starts ranks bytes at) i 0) × (get_or (starts ranks bytes at) i 0 < length bytes)
   starts_within i inside = omega (arith, start_within ranks at (drop at bytes) i inside, starts_few, length-drop at bytes)
 
-  pub starts_enough : (nodes : ℕ) → tree_read ranks bytes ≡ Nodes nodes → at < length bytes
+  pub starts_enough : (nodes : ℕ) → tree_read ranks bytes ≡ Ok nodes → at < length bytes
       → (get_or bytes at 0 < length ranks) × (rank_at ranks bytes at ≤ length (starts ranks bytes (at + 1)))
   unfolding Supplied
   starts_enough nodes found inside =

@@ -1,5 +1,5 @@
 -- What is read as a tree is exactly what a tree over the ranks, of at most 4,096 nodes, is written as; and one tree only is written so.
-use Rattle.std.specs.Prelude.{ℕ, zero, suc, ◌+◌, ◌≤◌, ◌≡◌, refl, get_or}
+use Rattle.std.specs.Prelude.{Ok, Err, ℕ, zero, suc, ◌+◌, ◌≤◌, ◌≡◌, refl, get_or}
 use Rattle.std.proofs.Math.Path.{ap}
 use Rattle.std.proofs.Common.{sym, ◌∙◌, add-zero, add-suc, length-append}
 use mathlib.Core.List.{List, [], ◌∷◌, ◌++◌, append_assoc, append-nil}
@@ -7,9 +7,7 @@ use native.Mathlib.Omega.{arith}
 use Rattle.std.proofs.Math.ListN.{length}
 use Rattle.model.specs.Tree.{Tree, Forest, node, none, ◌then◌, count, prefix, prefixes, Over, OverAll}
 use Rattle.answers.specs.declared.Refusal.{Refusal}
-use Rattle.trees.specs.declared.TreeRead.{TreeRead}
-use Rattle.trees.specs.declared.TreeRead.TheVariants.{Nodes, Refused}
-use Rattle.trees.specs.Read.{nodes_from, tree_read}
+use Rattle.trees.specs.Read.{TreeRead, nodes_from, tree_read}
 use Rattle.trees.specs.Steps.{NodeRead, read_late, read_unknown, read_known, node_read, known}
 use Rattle.trees.specs.Forests.{count_drop}
 use Rattle.trees.specs.Finished.{finished, tree_of, first_tree, Supplied, prefixes_finished, over_finished, finished_prefix}
@@ -27,16 +25,16 @@ pub record Accepted (ranks : List ℕ) (due at : ℕ) (rest : List ℕ) (nodes :
   pub count_is : count (finished ranks rest) ≡ due
   pub supplied : Supplied ranks rest
 
-refused_not_nodes : {refusal : Refusal} {nodes : ℕ} → Refused refusal ≡ Nodes nodes → ⊥
-refused_not_nodes found = let differ : ◌≡◌ {A = ℕ} 0 1 = cc in omega arith
+refused_not_nodes : {refusal : Refusal} {nodes : ℕ} → ◌≡◌ {A = TreeRead} (Err refusal) (Ok nodes) → ⊥
+refused_not_nodes found = cc
 
 accepted_node : (ranks : List ℕ) (due at symbol : ℕ) (rest : List ℕ) (nodes : ℕ) {found : TreeRead} → NodeRead ranks due at symbol rest found
-    → (at + 1 ≤ 4096 → nodes_from ranks (due + get_or ranks symbol 0) (at + 1) rest ≡ Nodes nodes
+    → (at + 1 ≤ 4096 → nodes_from ranks (due + get_or ranks symbol 0) (at + 1) rest ≡ Ok nodes
     → Accepted ranks (due + get_or ranks symbol 0) (at + 1) rest nodes)
-    → found ≡ Nodes nodes → Accepted ranks (suc due) at (symbol ∷ rest) nodes
+    → found ≡ Ok nodes → Accepted ranks (suc due) at (symbol ∷ rest) nodes
 unfolding finished count Supplied
-accepted_node ranks due at symbol rest nodes (read_late late) later found = absurd (refused_not_nodes found)
-accepted_node ranks due at symbol rest nodes (read_unknown early beyond) later found = absurd (refused_not_nodes found)
+accepted_node ranks due at symbol rest nodes (read_late late) later found = cc
+accepted_node ranks due at symbol rest nodes (read_unknown early beyond) later found = cc
 accepted_node ranks due at symbol rest nodes (read_known early within) later found =
     let rest-accepted = later (omega arith) found in
     record {
@@ -47,13 +45,13 @@ accepted_node ranks due at symbol rest nodes (read_known early within) later fou
     }
 
 accepted_from : (ranks : List ℕ) (due at : ℕ) (rest : List ℕ) (nodes : ℕ) → at ≤ 4096
-    → nodes_from ranks due at rest ≡ Nodes nodes → Accepted ranks due at rest nodes
+    → nodes_from ranks due at rest ≡ Ok nodes → Accepted ranks due at rest nodes
 unfolding nodes_from finished count Supplied
 accepted_from ranks zero at [] nodes early found =
     let same : at ≡ nodes = cc in
     record { nodes_are = omega arith; few = omega arith; count_is = refl; supplied = tt }
-accepted_from ranks zero at (symbol ∷ rest) nodes early found = absurd (refused_not_nodes found)
-accepted_from ranks (suc due) at [] nodes early found = absurd (refused_not_nodes found)
+accepted_from ranks zero at (symbol ∷ rest) nodes early found = cc
+accepted_from ranks (suc due) at [] nodes early found = cc
 accepted_from ranks (suc due) at (symbol ∷ rest) nodes early found =
     accepted_node ranks due at symbol rest nodes (node_read ranks due at symbol rest)
     (accepted_from ranks (due + get_or ranks symbol 0) (at + 1) rest nodes) found
@@ -71,13 +69,13 @@ unfolding prefix
 some_node (node symbol ts) = omega arith
 
 module _ (ranks bytes : List ℕ) where
-  pub accepted : (nodes : ℕ) → tree_read ranks bytes ≡ Nodes nodes → Accepted ranks 1 0 bytes nodes
+  pub accepted : (nodes : ℕ) → tree_read ranks bytes ≡ Ok nodes → Accepted ranks 1 0 bytes nodes
   accepted nodes found = accepted_from ranks 1 0 bytes nodes (omega arith) found
 
-  pub nodes_are_bytes : (nodes : ℕ) → tree_read ranks bytes ≡ Nodes nodes → nodes ≡ length bytes
+  pub nodes_are_bytes : (nodes : ℕ) → tree_read ranks bytes ≡ Ok nodes → nodes ≡ length bytes
   nodes_are_bytes nodes found = omega (arith, accepted nodes found)
 
-  pub sound : (nodes : ℕ) → tree_read ranks bytes ≡ Nodes nodes → Written ranks (tree_of ranks bytes) bytes
+  pub sound : (nodes : ℕ) → tree_read ranks bytes ≡ Ok nodes → Written ranks (tree_of ranks bytes) bytes
   sound nodes found =
       let read = accepted nodes found in
       let only = only_tree ranks (finished ranks bytes) read.count_is (over_finished ranks bytes read.supplied) in
@@ -106,7 +104,7 @@ module _ (ranks : List ℕ) where
         let others = forest_passes ts due (at + length (prefix t)) rest over.1 (omega arith) in
         rw (append_assoc, add-suc) (cc)
 
-  pub complete : (tree : Tree) (bytes : List ℕ) → Written ranks tree bytes → tree_read ranks bytes ≡ Nodes (length bytes)
+  pub complete : (tree : Tree) (bytes : List ℕ) → Written ranks tree bytes → tree_read ranks bytes ≡ Ok (length bytes)
   unfolding nodes_from
   complete tree bytes written =
       let many = ap length written.bytes_are in

@@ -2,48 +2,32 @@
 
 #![tactic(auto)]
 
-ghost use Rattle.std.specs.Prelude.{◌≡◌, ◌≤◌, ◌<◌, length, take};
+ghost use Rattle.std.specs.Prelude.{◌≡◌};
 ghost use Rattle.trees.specs.Read.{tree_read};
 
 use answers::Refusal;
 
-// What the bytes are: a tree of so many nodes, or why not.
-#[derive(Clone, Copy)]
-pub enum TreeRead {
-    Nodes(usize),
-    Refused(Refusal),
-}
-
-// Reads a tree over the first `symbols` of the ranks: a table's record has room for more symbols than the table has.
-pub fn read_tree(ranks: &[u8], symbols: usize, tree: &[u8]) -> TreeRead
-    requires { symbols ≤ length ranks.now }
-    ensures { result ≡ tree_read (take symbols ranks.now) tree.now }
+// How many nodes the tree over these ranks has that the bytes are, or why they are none.
+#[tactic(auto, using(crate::specs::Steps::finished_at_end, crate::specs::Steps::due_at_end, crate::specs::Steps::finished_inside, crate::specs::Steps::due_too_late, crate::specs::Steps::due_unknown, crate::specs::Steps::due_known))]
+pub fn read_tree(ranks: &[u8], tree: &[u8]) -> Result<usize, Refusal>
+    ensures { result ≡ tree_read ranks.now tree.now }
 {
     let mut due: usize = 1;
-    let mut at: usize = 0;
-    while at < tree.len() {
+    for (at, byte) in tree.iter().enumerate() {
         if due == 0 {
-            return TreeRead::Refused(Refusal::TreeGoesOn(at));
+            return Err(Refusal::TreeGoesOn(at));
         }
-        let symbol = wide(tree[at]);
+        let symbol = *byte as usize;
         if 4096 <= at {
-            return TreeRead::Refused(Refusal::TreeTooLong);
+            return Err(Refusal::TreeTooLong);
         }
-        if symbols <= symbol {
-            return TreeRead::Refused(Refusal::UnknownSymbol(at));
+        if ranks.len() <= symbol {
+            return Err(Refusal::UnknownSymbol(at));
         }
-        due = due - 1 + wide(ranks[symbol]);
-        at += 1;
+        due = due - 1 + ranks[symbol] as usize;
     }
-    if due == 0 {
-        TreeRead::Nodes(at)
-    } else {
-        TreeRead::Refused(Refusal::TreeEnds(at))
+    if due != 0 {
+        return Err(Refusal::TreeEnds(tree.len()));
     }
-}
-
-fn wide(byte: u8) -> usize
-    ensures { (result ≡ byte) × (result < 256) }
-{
-    byte as usize
+    Ok(tree.len())
 }

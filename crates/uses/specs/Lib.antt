@@ -3,3 +3,4 @@ pub mod Numbers
 pub mod Places
 pub mod Steps
 pub mod Theory
+pub mod Tables

@@ -6,7 +6,8 @@ use Rattle.std.proofs.Common.{sym, ap, ◌∙◌, arith}
 use Rattle.std.proofs.Math.Decide.{ℕ_discrete}
 use Rattle.model.specs.Table.{Each}
 use Rattle.theory.specs.Below.{up_from, below, each_below}
-use Rattle.theory.specs.Direction.{Direction, backward, forward}
+use Rattle.theory.specs.declared.Direction.{Direction}
+use Rattle.theory.specs.declared.Direction.TheVariants.{Backward as backward, Forward as forward}
 use Rattle.model.proofs.Each.{each_implies, each_map, each-flat_map}
 use Rattle.theory.specs.Semiring.{Operations, Laws}
 use Rattle.theory.specs.Sum.{only, sum, sum_same, sum-map, sum-flat_map, sum-exchange, zero_plus}

@@ -8,7 +8,8 @@ use Rattle.model.specs.Table.{Each}
 use Rattle.tables.specs.Record.{Columns, row_at, rows_from}
 use Rattle.theory.specs.Arithmetic.{arithmetic, Weight, meaning}
 use Rattle.theory.specs.Below.{up_from, below, each_below}
-use Rattle.theory.specs.Direction.{Direction, backward, forward}
+use Rattle.theory.specs.declared.Direction.{Direction}
+use Rattle.theory.specs.declared.Direction.TheVariants.{Backward as backward, Forward as forward}
 use Rattle.model.proofs.Each.{each_implies, each_map, each-flat_map}
 use Rattle.theory.specs.Profile.{Use, counted}
 use Rattle.theory.specs.Semiring.{Operations, Laws}

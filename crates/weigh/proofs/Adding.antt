@@ -11,7 +11,7 @@ use lib.ListN.{length, get_or}
 use Rattle.theory.specs.Sum.{only}
 use Rattle.theory.specs.Arithmetic.{arithmetic, Weight}
 use Rattle.arith.specs.Numbers.{number_of}
-use Rattle.weigh.specs.declared.Row.{Row}
+use Rattle.weigh.specs.declared.rows.Row.{Row}
 use Rattle.weigh.specs.Numbers.{StandsFor, Good}
 use Rattle.weigh.specs.Rows.{Sources, sources, child_place, child_number, times_children, row_product, sum_into, Ready, sum_at, Added, RowReady}
 use Rattle.weigh.specs.Steps.{Replaced}
@@ -63,16 +63,15 @@ module _ (a : ℕ) (s : Sources) (target : List ℕ) (rank from j : ℕ) (after 
 -- the transitions before j are added into the row of node `at` of the sheet
 pub record Adding (a : ℕ) (s : Sources) (target : List ℕ) (row : Row) (sheet : List ℤ) (j : ℕ) : Type 0 where
   pub after : row.from ≤ j
-  pub some : j ≤ row.to
   pub sums : Replaced (pos 0) (row.at * s.states) s.states (λ q. StandsFor a 16385 (sum_into a s target row.rank row.from j q)) s.sheet sheet
 
 module _ {a : ℕ} {s : Sources} {target : List ℕ} {row : Row} where
   -- a row of zeros
-  pub adding_starts : {before : List ℤ} → row.from ≤ row.to → Replaced (pos 0) (row.at * s.states) s.states (λ q. StandsFor a 16385 (arithmetic a).zero) before s.sheet
+  pub adding_starts : {before : List ℤ} → Replaced (pos 0) (row.at * s.states) s.states (λ q. StandsFor a 16385 (arithmetic a).zero) before s.sheet
       → Adding a s target row s.sheet row.from
-  adding_starts ordered cleared =
+  adding_starts cleared =
       let none : row.from - row.from ≡ 0 = omega arith in
-      record { after = omega arith; some = ordered; sums = record { same_length = refl; new = λ q l. rw none (cleared.new q l); others = λ p o. refl } }
+      record { after = omega arith; sums = record { same_length = refl; new = λ q l. rw none (cleared.new q l); others = λ p o. refl } }
 
   module _ {sheet : List ℤ} {j : ℕ} (ready : RowReady a s target row) (so_far : Adding a s target row sheet j) (more : j < row.to) where
     -- the children's numbers stand behind the row
@@ -106,7 +105,6 @@ module _ {a : ℕ} {s : Sources} {target : List ℕ} {row : Row} where
         let after = so_far.after in
         record {
           after = omega arith;
-          some = omega arith;
           sums = rw added.stored
               (replaced_one (pos 0) (row.at * s.states) s.states (λ q. StandsFor a 16385 (sum_into a s target row.rank row.from j q)) (λ q. StandsFor a 16385 (sum_into a s target row.rank row.from (j + 1) q))
               s.sheet sheet (get_or target j 0) (row.at * s.states + get_or target j 0) _ so_far.sums refl (ready.targets j so_far.after more) next_inside stands
@@ -122,7 +120,6 @@ module _ {a : ℕ} {s : Sources} {target : List ℕ} {row : Row} where
     cleared_ready = record {
       row_fits = let fits = ready.row_fits in let long = cleared.same_length in omega arith;
       ordered = ready.ordered;
-      target_long = ready.target_long;
       ready = λ j l m. ready_same a (with_sheet s before) s.sheet row.rank j (child_cleared j l m) cleared.same_length (ready.ready j l m);
       targets = ready.targets;
       behind = ready.behind;
@@ -132,13 +129,10 @@ module _ {a : ℕ} {s : Sources} {target : List ℕ} {row : Row} where
     sum_into_cleared q = let ordered = ready.ordered in sum_range (arithmetic a) _ _ row.from (row.to - row.from) (λ j l m.
         ap (only (arithmetic a) (eqb (get_or target j 0) q)) (product_of_same a (with_sheet s before) s.sheet row.rank j (child_cleared j l (omega arith))))
 
-    pub adding_ends : {sheet : List ℤ} {j : ℕ} → Adding a s target row sheet j → row.to ≤ j
+    pub adding_ends : {sheet : List ℤ} {j : ℕ} → Adding a s target row sheet j → j ≡ row.to
         → Replaced (pos 0) (row.at * s.states) s.states (λ q. StandsFor a 16385 (sum_into a (with_sheet s before) target row.rank row.from row.to q)) before sheet
-    adding_ends {j = j} so_far done =
-        let some = so_far.some in
-        let all : j ≡ row.to = omega arith in
-        record {
-          same_length = so_far.sums.same_length ∙ cleared.same_length;
-          new = λ q l. rw (← sum_into_cleared q, ← all) (so_far.sums.new q l);
-          others = λ p o. so_far.sums.others p o ∙ cleared.others p o;
-        }
+    adding_ends so_far all = record {
+      same_length = so_far.sums.same_length ∙ cleared.same_length;
+      new = λ q l. rw (← sum_into_cleared q, ← all) (so_far.sums.new q l);
+      others = λ p o. so_far.sums.others p o ∙ cleared.others p o;
+    }

@@ -52,8 +52,12 @@ module _ (a j k : ℕ) (few : j + k ≤ 2 ^ 32) (u v : Weight a) (x y : ℤ) (st
   product_are : (arithmetic a).times (weight_of a x) (weight_of a y) ≡ (arithmetic a).times u v
   product_are = rw (stands_weight a j (omega arith) u x stands-u, stands_weight a k (omega arith) v y stands-v)
 
-  pub product_in_sheet : InSheet a ((arithmetic a).times (weight_of a x) (weight_of a y))
+  product_in_sheet : InSheet a ((arithmetic a).times (weight_of a x) (weight_of a y))
   product_in_sheet = rw product_are (bounded_in_sheet a (j + k) few _ (bounded_times a j k u v stands-u.bounded stands-v.bounded))
+
+  -- what their product requires
+  pub factors_stand : Stands a x × Stands a y × InSheet a ((arithmetic a).times (weight_of a x) (weight_of a y))
+  factors_stand = (stands_number a j (omega arith) u x stands-u, stands_number a k (omega arith) v y stands-v, product_in_sheet)
 
   pub stands_product : (r : ℤ) → r ≡ number_of a ((arithmetic a).times (weight_of a x) (weight_of a y)) → StandsFor a (j + k) ((arithmetic a).times u v) r
   stands_product r e = record { number = e ∙ ap (number_of a) product_are; bounded = bounded_times a j k u v stands-u.bounded stands-v.bounded }

@@ -79,6 +79,10 @@ module _ {X : Table} {tree : List ℕ} {before sheet : List ℤ} {stack : List �
       let some = so_far.some in
       omega arith
 
+-- the node before a place that is not the first
+pub filling_at : {X : Table} {tree : List ℕ} {before sheet : List ℤ} {stack : List ℕ} {top next : ℕ} → 0 < next → Filling X tree before sheet stack top next → Filling X tree before sheet stack top (next - 1 + 1)
+filling_at {next = next} some so_far = let same : next ≡ next - 1 + 1 = omega arith in rw same at so_far
+
 -- one node more: its row, and the node in place of its children on the stack
 module _ {X : Table} {tree : List ℕ} {before sheet later : List ℤ} {stack : List ℕ} {top rank : ℕ} {P : ℕ → ℤ → Type 0} (at : ℕ) (room : length tree * X.states ≤ length before) (so_far : Filling X tree before sheet stack top (at + 1))
     (rank_is : rank ≡ rank_at X.ranks tree at) (some-top : 1 ≤ top + rank) (on_stack : top + rank ≤ 4096) (replaced : Replaced (pos 0) (at * X.states) X.states P sheet later)

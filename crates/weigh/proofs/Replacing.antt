@@ -6,8 +6,11 @@ use mathlib.Core.List.{List, ◌++◌}
 use native.Mathlib.Omega.{arith}
 use native.Mathlib.Nat.{zero-add}
 use native.Mathlib.Decide.{dec_lt}
-use lib.ListN.{length, get_or, set, take, drop, length-set, length-append, length-drop, get_or-append}
+use lib.ListN.{length, get_or, set, take, drop, replicate, length-set, length-append, length-drop, get_or-append}
 use lib.Seq.{get_or-set_same, get_or-set_other, length-take-le, get_or-take, get_or-drop, get_or-append-add, ext_get_or}
+use borrow.Rule.Slice.PartMut.{put_mid}
+use borrow.Author.Rules.{rules}
+use Rattle.std.proofs.lemmas.List.{places}
 use Rattle.weigh.specs.Steps.{Replaced}
 
 module _ {A : Type 0} (missing : A) (from : ℕ) (P : ℕ → A → Type 0) (before : List A) where
@@ -38,10 +41,18 @@ module _ {A : Type 0} (missing : A) (from : ℕ) (P : ℕ → A → Type 0) (bef
       wider p (inl l) = inl l
       wider p (inr l) = inr (omega arith)
 
-  pub replaced_all : (k n : ℕ) (now : List A) → Replaced missing from k P before now → k ≤ n → n ≤ k → Replaced missing from n P before now
-  replaced_all k n now so_far few many =
-      let all : k ≡ n = omega arith in
-      subst (λ (m : ℕ). Replaced missing from m P before now) all so_far
+-- a part that is filled with one value
+pub replaced_fill : {A : Type 0} (missing : A) (from n : ℕ) (P : ℕ → A → Type 0) (before filled : List A) (x : A) → from + n ≤ length before
+    → filled ≡ replicate (length (take (from + n - from) (drop from before))) x → ((q : ℕ) → q < n → P q x)
+    → Replaced missing from n P before (put_mid from (from + n - from) before filled)
+replaced_fill missing from n P before filled x fits e h =
+    let many : from + n - from ≡ n = omega arith in
+    let long : length (take (from + n - from) (drop from before)) ≡ n = rw many (length-take-le n (drop from before) (simp length-drop (omega arith))) in
+    rw (e, long, many) record {
+      same_length = search (rules, places);
+      new = λ q l. let same : get_or (put_mid from n before (replicate n x)) (from + q) missing ≡ x = grind (arith, places) in rw same (h q l);
+      others = λ p o. elim o [ inl l ↦ grind (arith, places) | inr l ↦ grind (arith, places) ];
+    }
 
 -- entries from the first on
 pub replaced_first : {A : Type 0} (missing : A) (count : ℕ) (P : ℕ → A → Type 0) (before after : List A) → Replaced missing 0 count P before after

@@ -1,6 +1,6 @@
 -- How far from 0 the weight given back lies (document 01, "Numbers that come back"): nothing, or within 8,798,240,501,759.
-use Rattle.std.specs.Prelude.{ℕ, zero, suc, ◌+◌, ◌*◌, ◌≤◌, ◌<◌, ◌≡◌, refl, ◌⊎◌, Bool, true, false, cond, List, T, leb, ℤ, negsuc, nat_abs, length, get_or}
-use Rattle.std.proofs.Common.{sym, ap, ◌∙◌, subst, inl, inr, arith}
+use Rattle.std.specs.Prelude.{Ok, Err, ℕ, zero, suc, ◌+◌, ◌*◌, ◌≤◌, ◌<◌, ◌≡◌, refl, ◌⊎◌, Bool, true, false, cond, List, leb, ℤ, negsuc, nat_abs, length, get_or}
+use Rattle.std.proofs.Common.{ap, inl, inr, arith}
 use Rattle.model.specs.Table.{Table, Proper, ProperTransition}
 use Rattle.model.specs.Tree.{Tree, prefix}
 use Rattle.model.proofs.Each.{each_implies}
@@ -12,9 +12,7 @@ use Rattle.theory.proofs.Bound.{within_more, weight_within}
 use Rattle.answers.specs.declared.Refusal.TheVariants.{RoomTooShort}
 use Rattle.format.specs.Read as format
 use Rattle.roundtrip.specs.Tables.{table_sound}
-use Rattle.trees.specs.declared.TreeRead.{TreeRead}
-use Rattle.trees.specs.declared.TreeRead.TheVariants as trees
-use Rattle.trees.specs.Read.{tree_read}
+use Rattle.trees.specs.Read.{TreeRead, tree_read}
 use Rattle.trees.specs.Finished.{tree_of}
 use Rattle.trees.specs.Written.{sound}
 use Rattle.weigh.specs.declared.Weighing.{Weighing}
@@ -36,24 +34,21 @@ weight_near X proper t small (suc zero) l =
     (weight_within X (each_implies (ProperTransition X.ranks X.states) (λ t. t.code < 4294967296) (λ t p. p.code_fits) X.transitions proper.transitions_proper) proper.finals_fit t))
 weight_near X proper t small (suc (suc a)) l = absurd (omega arith)
 
-pub weigh_near : (table tree : List ℕ) → ((i : ℕ) → get_or table i 0 < 256) → (before after : List ℤ) (v : Weighing) → Weighed table tree before v after → v.given ≡ true → Near v.weight
+pub weigh_near : (table tree : List ℕ) → ((i : ℕ) → get_or table i 0 < 256) → (before after : List ℤ) (w : Weighing) → Weighed table tree before (Ok w) after → Near w.weight
 unfolding value
-weigh_near table tree bytes before after v p g = at_table (format.table_read table) refl (weighed_asked tree before v after table p).0
+weigh_near table tree bytes before after w p = at_table (format.table_read table) refl (weighed_asked tree before (Ok w) after table p).0
   where
-    none : {A : Type 0} → ◌≡◌ {A = Bool} false true → A
-    none f = absurd (subst T (sym f) tt)
-
     with-room : (X : Table) → Proper X → length (prefix (tree_of X.ranks tree)) ≤ 4096 → (n : ℕ) (b : Bool)
-        → v ≡ answered (cond b (weighed X (tree_of X.ranks tree) n) (refused (RoomTooShort (n * X.states)))) → Near v.weight
-    with-room X proper small n true e = rw (ap (λ (w : Weighing). w.weight) e) (weight_near X proper (tree_of X.ranks tree) small X.arithmetic proper.arithmetic_known)
-    with-room X proper small n false e = none (sym (ap (λ (w : Weighing). w.given) e) ∙ g)
+        → Ok w ≡ answered (cond b (weighed X (tree_of X.ranks tree) n) (refused (RoomTooShort (n * X.states)))) → Near w.weight
+    with-room X proper small n true e = let weight : w.weight ≡ sheet_number (value X (tree_of X.ranks tree)) = cc in rw weight (weight_near X proper (tree_of X.ranks tree) small X.arithmetic proper.arithmetic_known)
+    with-room X proper small n false e = cc
 
-    at_tree : (X : Table) → Proper X → (r : TreeRead) → tree_read X.ranks tree ≡ r → v ≡ answered (with_tree X tree (length before) r) → Near v.weight
-    at_tree X proper (trees.Nodes n) f e =
+    at_tree : (X : Table) → Proper X → (r : TreeRead) → tree_read X.ranks tree ≡ r → Ok w ≡ answered (with_tree X tree (length before) r) → Near w.weight
+    at_tree X proper (Ok n) f e =
         let written = sound X.ranks tree n f in
         with-room X proper (omega (arith, ap length written.bytes_are, written.few)) n (leb (n * X.states) (length before)) e
-    at_tree X proper (trees.Refused r) f e = none (sym (ap (λ (w : Weighing). w.given) e) ∙ g)
+    at_tree X proper (Err r) f e = cc
 
-    at_table : (x : format.Found Table) → format.table_read table ≡ x → v ≡ answered (with_table tree (length before) x) → Near v.weight
+    at_table : (x : format.Found Table) → format.table_read table ≡ x → Ok w ≡ answered (with_table tree (length before) x) → Near w.weight
     at_table (format.found X end) f e = at_tree X (table_sound table bytes X end f).0 (tree_read X.ranks tree) refl e
-    at_table (format.refused r) f e = none (sym (ap (λ (w : Weighing). w.given) e) ∙ g)
+    at_table (format.refused r) f e = cc

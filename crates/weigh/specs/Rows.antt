@@ -1,21 +1,20 @@
 -- The row of a node: what it is made of, and what is filled in.
 use Rattle.std.specs.Prelude.{ℕ, zero, suc, ◌+◌, ◌-◌, ◌*◌, ◌≤◌, ◌<◌, ◌≡◌, List, eqb, ℤ, pos, length, get_or, set}
 use Rattle.theory.specs.Sum.{only, sum}
-use Rattle.theory.specs.Below.{up_from}
-use Rattle.theory.specs.Arithmetic.{arithmetic, Weight}
+use Rattle.theory.specs.Below.{below, up_from}
+use Rattle.theory.specs.Arithmetic.{arithmetic, Weight, meaning}
 use Rattle.arith.specs.Numbers.{number_of, weight_of}
 use Rattle.weigh.specs.Numbers.{Bounded, Good}
-use Rattle.weigh.specs.declared.Row.{Row}
+use Rattle.weigh.specs.declared.rows.Row.{Row}
+use Rattle.weigh.specs.declared.Weigher.{Weigher}
 
--- the row of the node at an offset: its transitions stand from the beginning of its symbol's up to the next symbol's
-abbrev pub row_for : ℕ → ℕ → List ℕ → List ℕ → List ℕ → Row
-row_for at top ranks begins tree = record {
-  at = at;
-  rank = get_or ranks (get_or tree at 0) 0;
-  top = top;
-  from = get_or begins (get_or tree at 0) 0;
-  to = get_or begins (get_or tree at 0 + 1) 0;
-}
+-- a row is that of the node at an offset: its transitions stand from the beginning of its symbol's up to the next symbol's
+pub record RowAt (at top : ℕ) (ranks begins tree : List ℕ) (row : Row) : Type 0 where
+  pub at_is : row.at ≡ at
+  pub rank_is : row.rank ≡ get_or ranks (get_or tree at 0) 0
+  pub top_is : row.top ≡ top
+  pub from_is : row.from ≡ get_or begins (get_or tree at 0) 0
+  pub to_is : row.to ≡ get_or begins (get_or tree at 0 + 1) 0
 
 -- what the row of a node is made of: the children of transition j are in the states from 4 * j on, and their nodes stand on the stack
 -- from `top` on; `numbers` are those of the transitions' weights
@@ -29,6 +28,10 @@ pub record Sources : Type 0 where
 
 abbrev pub sources : ℕ → List ℕ → List ℕ → ℕ → List ℤ → List ℤ → Sources
 sources states children stack top numbers sheet = record { states = states; children = children; stack = stack; top = top; numbers = numbers; sheet = sheet }
+
+-- what this row of a weigher is made of
+abbrev pub sources_of : Weigher → Row → List ℤ → Sources
+sources_of w row sheet = sources w.table.now.states w.table.now.children w.stack.now row.top w.numbers.now sheet
 
 -- where the number of child k of transition j stands: node × n + state
 abbrev pub child_place : Sources → ℕ → ℕ → ℕ
@@ -53,13 +56,9 @@ row_product a s rank j = times_children a s j (weight_of a (own_number s j)) 0 r
 abbrev pub sum_into : (a : ℕ) → Sources → List ℕ → ℕ → ℕ → ℕ → ℕ → Weight a
 sum_into a s target rank from to q = sum (arithmetic a) (up_from from (to - from)) (λ j. only (arithmetic a) (eqb (get_or target j 0) q) (row_product a s rank j))
 
--- the arrays are as long as they are declared, and a node of this rank finds its children on the stack
-pub record Sized (rank : ℕ) (s : Sources) : Type 0 where
-  pub few_children : rank ≤ 4
-  pub on_stack : s.top + rank ≤ 4096
-  pub children_long : length s.children ≡ 16000
-  pub stack_long : length s.stack ≡ 4096
-  pub numbers_long : length s.numbers ≡ 4000
+-- the sum, over n states, of final weight times weight at the root, whose row stands first in the sheet
+abbrev pub final_sum : (a : ℕ) → ℕ → List ℕ → List ℤ → Weight a
+final_sum a n finals sheet = sum (arithmetic a) (below n) (λ q. (arithmetic a).times (meaning a (get_or finals q 0)) (weight_of a (get_or sheet q (pos 0))))
 
 -- the product of transition j can be taken
 pub record Ready (a : ℕ) (s : Sources) (rank j : ℕ) : Type 0 where
@@ -81,7 +80,6 @@ pub record Added (a : ℕ) (s : Sources) (rank j place : ℕ) (after : List ℤ)
 pub record RowReady (a : ℕ) (s : Sources) (target : List ℕ) (row : Row) : Type 0 where
   pub row_fits : row.at * s.states + s.states ≤ length s.sheet
   pub ordered : row.from ≤ row.to
-  pub target_long : length target ≡ 4000
   pub ready : (j : ℕ) → row.from ≤ j → j < row.to → Ready a s row.rank j
   pub targets : (j : ℕ) → row.from ≤ j → j < row.to → get_or target j 0 < s.states
   pub behind : (j k : ℕ) → row.from ≤ j → j < row.to → k < row.rank → row.at * s.states + s.states ≤ child_place s j k

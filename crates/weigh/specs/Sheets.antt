@@ -1,6 +1,6 @@
 -- The rows of a tree's nodes from an offset on: the node's own row before those behind it, and what stands at each place.
 use Prim.Native.Nat.{ℕ, zero, suc, ◌+◌, ◌*◌, ◌<◌}
-use Rattle.std.specs.Prelude.{◌≡◌, ℤ, pos, length}
+use Rattle.std.specs.Prelude.{Ok, ◌≡◌, ℤ, pos, length}
 use Rattle.std.proofs.Math.Path.{refl, ap}
 use Rattle.std.proofs.Common.{◌∙◌, arith, zero-mul, zero-add, add-zero, suc-mul, drop-cons, get_or-append-add}
 use mathlib.Core.List.{List, [], ◌∷◌, ◌++◌, map, append_assoc, append-nil}
@@ -16,7 +16,6 @@ use Rattle.arith.specs.Numbers.{number_of}
 use Rattle.trees.specs.Forests.{take_trees, drop_trees}
 use Rattle.trees.specs.Finished.{finished, first_tree}
 use Rattle.trees.specs.Subtrees.{subtree}
-use Rattle.trees.specs.declared.TreeRead.TheVariants.{Nodes}
 use Rattle.trees.specs.Read.{tree_read}
 use Rattle.trees.specs.Finished.{tree_of}
 use Rattle.trees.specs.Written.{accepted}
@@ -85,7 +84,7 @@ module _ (a : ℕ) (X : Table) where
         ∙ ap (λ (i : ℕ). number_of a (weight_at a X (subtree X.ranks tree i) q)) offset)
 
     -- The sheet of a tree holds at node × n + state the weight of the node's subtree at that state, whatever stands behind it.
-    pub sheet_entry : (nodes : ℕ) → tree_read X.ranks tree ≡ Nodes nodes → (behind : List ℤ) (at q : ℕ) → at < nodes → q < X.states
+    pub sheet_entry : (nodes : ℕ) → tree_read X.ranks tree ≡ Ok nodes → (behind : List ℤ) (at q : ℕ) → at < nodes → q < X.states
         → get_or (sheet a X (tree_of X.ranks tree) ++ behind) (at * X.states + q) (pos 0) ≡ number_of a (weight_at a X (subtree X.ranks tree at) q)
     sheet_entry nodes read behind at q inside known =
         let whole = accepted X.ranks tree nodes read in

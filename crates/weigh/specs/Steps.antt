@@ -1,14 +1,12 @@
 -- What the steps of weighing need and leave.
-use Rattle.std.specs.Prelude.{ℕ, ◌+◌, ◌*◌, ◌≤◌, ◌<◌, ◌≡◌, ◌⊎◌, List, ◌++◌, ℤ, length, get_or, take, drop}
+use Rattle.std.specs.Prelude.{Ok, ℕ, ◌+◌, ◌*◌, ◌≤◌, ◌<◌, ◌≡◌, ◌⊎◌, List, ◌++◌, ℤ, length, get_or, drop}
 use Rattle.theory.specs.Weight.{weight}
 use Rattle.theory.specs.Sheet.{sheet}
 use Rattle.model.specs.Table.{Table, Proper}
 use Rattle.arith.specs.Numbers.{number_of}
-use Rattle.trees.specs.declared.TreeRead.TheVariants.{Nodes}
 use Rattle.trees.specs.Read.{tree_read}
 use Rattle.trees.specs.Finished.{tree_of}
-use Rattle.tables.specs.Record.{Columns, table_in, table_of}
-use Rattle.tables.specs.Steps.{Long}
+use Rattle.tables.specs.Record.{table_of}
 use Rattle.tables.specs.declared.TableRecord.{TableRecord}
 
 -- `count` entries from `from` on are as P says, and the others are as they were; `missing` stands for entries behind the end
@@ -22,14 +20,12 @@ pub record Held (t : TableRecord) : Type 0 where
   pub proper : Proper (table_of t)
   pub symbols : t.symbols ≡ length (table_of t).ranks
 
--- a table's numbers and arrays, a tree of it, and room for its sheet
-pub record Weighable (arithmetic states symbols count : ℕ) (finals : List ℕ) (c : Columns) (tree : List ℕ) (sheet : List ℤ) : Type 0 where
-  pub proper : Proper (table_in arithmetic states symbols count finals c)
-  pub symbols_are : symbols ≡ length (take symbols c.ranks)
-  pub finals_long : length finals ≡ 256
-  pub long : Long c
-  pub accepted : tree_read (take symbols c.ranks) tree ≡ Nodes (length tree)
-  pub room : length tree * states ≤ length sheet
+-- a table in memory, a tree of it, and room for its sheet
+pub record Weighable (t : TableRecord) (tree : List ℕ) (sheet : List ℤ) : Type 0 where
+  pub proper : Proper (table_of t)
+  pub symbols_are : t.symbols ≡ length (table_of t).ranks
+  pub accepted : tree_read (table_of t).ranks tree ≡ Ok (length tree)
+  pub room : length tree * t.states ≤ length sheet
 
 -- the sheet is filled with the tree's weights, and x is the weight of the tree
 pub record Summed (X : Table) (tree : List ℕ) (before after : List ℤ) (x : ℤ) : Type 0 where

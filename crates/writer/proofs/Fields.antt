@@ -1,17 +1,16 @@
 -- What a writable record says of its numbers and of its written form's length.
-use Prim.Native.Nat.{ℕ, ◌+◌, ◌≤◌, ◌<◌}
-use mathlib.Core.Path.{◌≡◌, ap}
+use Prim.Native.Nat.{ℕ, ◌≤◌, ◌<◌}
+use mathlib.Core.Path.{◌≡◌}
 use native.Mathlib.Omega.{arith}
 use lib.ListN.{length, get_or, take}
 use lib.Seq.{get_or-take}
 use Rattle.model.proofs.Each.{each-get_or}
 use Rattle.model.specs.Table.{ProperTransition}
-use Rattle.numbers.specs.Written.{written, written_all}
-use Rattle.format.specs.Written.{transitions_numbers, bytes_of}
+use Rattle.format.specs.Written.{bytes_of}
 use Rattle.tables.specs.Record.{row_at, rows_from, table_of}
 use Rattle.tables.specs.Steps.{Long}
 use Rattle.tables.specs.declared.TableRecord.{TableRecord}
-use Rattle.roundtrip.specs.Length.{length_table, table_length}
+use Rattle.roundtrip.specs.Length.{table_length}
 use Rattle.tables.specs.Rows.{columns_of, rows_length, each_row}
 use Rattle.writer.specs.Writable.{RowInside, Writable}
 
@@ -47,12 +46,6 @@ module _ (r : TableRecord) (w : Writable r) where
         code = omega (arith, long.code);
       }
 
-  -- the parts of the written form's length
-  pub form_length : length (bytes_of (table_of r))
-      ≡ length (written r.arithmetic) + length (written r.states) + length (written r.symbols) + length (written_all (take r.symbols r.ranks))
-      + length (written_all (take r.states r.finals)) + length (written r.count) + length (written_all (transitions_numbers (rows_from (columns_of r) 0 r.count)))
-  form_length =
-      omega (arith, length_table (table_of r), ap (λ (n : ℕ). length (written n)) w.symbols, ap (λ (n : ℕ). length (written n)) count_is)
-
+  -- the written form is short
   pub form_short : length (bytes_of (table_of r)) ≤ 65415
   form_short = table_length (table_of r) w.proper

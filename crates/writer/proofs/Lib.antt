@@ -1,6 +1,4 @@
-pub mod Columns
-pub mod Counting
 pub mod Fields
-pub mod Pieces
-pub mod Putting
+pub mod Rows
 pub mod Short
+pub mod Walks

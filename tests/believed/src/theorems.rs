@@ -20,6 +20,10 @@ const THEOREMS: &[(&str, &[&str])] = &[
         &["blocks_enough", "collapse_enough", "shrink_enough"],
     ),
     (
+        "collapse/specs/Wrong.antt",
+        &["collapse_refusal", "shrink_refusal"],
+    ),
+    (
         "roundtrip/specs/",
         &[
             "one_form",
@@ -51,6 +55,7 @@ const THEOREMS: &[(&str, &[&str])] = &[
     ),
     ("weigh/specs/Sheets.antt", &["sheet_entry"]),
     ("weigh/specs/Far.antt", &["weigh_near"]),
+    ("weigh/specs/Wrong.antt", &["weigh_refusal"]),
     ("peristhox/specs/Faces.antt", &["face_collapsing"]),
     ("peristhox/specs/Alike.antt", &["weighed_alike"]),
     (

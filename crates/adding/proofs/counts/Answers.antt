@@ -1,13 +1,14 @@
--- `adding::counts` meets its contract, for each side.
+-- `adding::counts` meets its contract: forward, the flags of the children say whether they are named.
 -- Assumes nothing.
-use mathlib.Core.Path.{◌∙◌}
-use Rattle.theory.specs.Direction.{side_backward, side_forward}
+use Rattle.std.proofs.Common.{◌∙◌, ap}
+use Rattle.adding.specs.Named.{all_named}
+use Rattle.adding.proofs.Children.{all_flagged}
 use Rattle.adding.proofs.counts.Goals as goal
 
-pub returns-then-direction-ne0 : goal.returns-then-direction-ne0
-returns-then-direction-ne0 c b n by =
-    rw (side_forward c.args.direction c.if-direction-ne0.true) (c.children_named.ensures b n by)
-
-pub returns : goal.returns
-returns c b n by =
-    rw (side_backward c.args.direction c.if-direction-ne0.false) (c.is_named.ensures.1 ∙ by _ c.is_named.ensures.0)
+pub returns-in-Forward : goal.returns-in-Forward
+returns-in-Forward c b n by =
+    rw c.in-Forward.is (
+    c.are_named.ensures.flags
+    ∙ all_flagged b n c.args.named.now by c.children_of.result.now c.are_named.ensures.bytes
+    ∙ ap (all_named b n) c.children_of.ensures.own
+    )

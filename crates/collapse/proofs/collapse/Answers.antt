@@ -1,51 +1,15 @@
--- `collapse::collapse` meets its contract: each return is one case of the promise.
--- Assumes nothing.
-use Rattle.format.specs.Read.{table_read}
-use Rattle.tables.specs.Record.{table_of}
-use Rattle.theory.specs.Direction.{direction as side_of}
-use Rattle.theory.specs.Collapse.{CollapsedByCoarsest}
-use Rattle.calls.specs.Readings.{Taken, reading_taken, reading_refused}
-use Rattle.collapse.proofs.Cases.{readable_writable, taken_readable, put_no_direction, put_refused, put_done}
-use borrow.Author.Rules.{rules}
-use Rattle.collapse.proofs.collapse.Lts as lts
-use Rattle.collapse.proofs.collapse.Tie as tie
-use Rattle.collapse.proofs.collapse.Reads as reads
+-- `collapse::collapse` meets its contract. Assumes nothing.
+use Rattle.collapse.proofs.Cases.{taken_readable}
+use Rattle.collapse.specs.Readable.{Readable}
 use Rattle.collapse.proofs.collapse.Goals as goal
-
-abbrev In-Done : Type 0
-In-Done = lts.Past-After-enum_told tie.the-claims reads.Pre reads.Post
+use Rattle.collapse.proofs.collapse.Goals.{In_ok-record}
 
 -- the table that was taken
-taken : (c : In-Done) → Taken (table_read c.args.table.now) c.in-Done.field-0 c.read-reading.result.table
-taken c = reading_taken _ c.read-reading.result _ c.read-reading.ensures c.in-Done.is
+taken : (c : In_ok-record) → Readable c.in_ok-record.record
+taken c = taken_readable c.args.table.now (λ i. (c.type_inv.table i).fits) c.in_ok-record.record c.in_ok-record.ensures
 
-pub returns-then-direction-gt1 : goal.returns-then-direction-gt1
-returns-then-direction-gt1 c =
-    let a = c.args in
-    put_no_direction a.direction a.table.now a.room.now (CollapsedByCoarsest (side_of a.direction)) c.refuse.result c.if-direction-gt1.true c.refuse.ensures
+pub coarsest-found-requires-clause-proper : goal.coarsest-found-requires-clause-proper
+coarsest-found-requires-clause-proper c = (taken (goal.at.coarsest-found-requires-clause-proper c).In_ok-record).proper
 
-pub coarsest-found-requires : goal.coarsest-found-requires
-coarsest-found-requires c =
-    let r = taken_readable c.args.table.now (λ i. (c.type_inv.table i).fits) _ c.read-reading.result.table (taken c.before.before.before.before) in
-    (c.if-direction-gt1.false, r.holds, r.proper, search rules, search rules)
-
-pub collapsed-next-requires : goal.collapsed-next-requires
-collapsed-next-requires c =
-    let k = c.coarsest-found.ensures in
-    (taken_readable c.args.table.now (λ i. (c.type_inv.table i).fits) _ c.read-reading.result.table (taken c.before.before.before.before.before.before.before), k.0, k.1, k.2, k.3)
-
-pub put_table-requires : goal.put_table-requires
-put_table-requires c = readable_writable c.collapsed-next.result c.collapsed-next.ensures.0
-
-pub returns-in-Done : goal.returns-in-Done
-returns-in-Done c =
-    let a = c.args in
-    let k = c.collapsed-next in
-    put_done a.direction a.table.now a.room.now (λ i. (c.type_inv.table i).fits) _ c.read-reading.result.table (taken c.before.before.before.before.before.before.before.before.before.before.before.before) c.if-direction-gt1.false
-    (CollapsedByCoarsest (side_of a.direction)) c.put_table.result _ (table_of k.result) k.ensures.1 c.put_table.ensures
-
-pub returns-in-Refused : goal.returns-in-Refused
-returns-in-Refused c =
-    let a = c.args in
-    put_refused a.direction a.table.now a.room.now (CollapsedByCoarsest (side_of a.direction)) c.refuse-in-Refused.result _ c.if-direction-gt1.false
-    (reading_refused _ c.read-reading.result _ c.read-reading.ensures c.in-Refused.is) c.refuse-in-Refused.ensures
+pub collapsed-next-requires-clause-readable : goal.collapsed-next-requires-clause-readable
+collapsed-next-requires-clause-readable c = taken (goal.at.collapsed-next-requires-clause-readable c).In_ok-record

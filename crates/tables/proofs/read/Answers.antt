@@ -1,40 +1,20 @@
--- `tables::read` meets its contract: the record is made of the arrays and of the numbers of the outcome.
+-- `tables::read` meets its contract: each return is one case of the definition of a table.
 -- Assumes nothing.
-use Prim.Native.Nat.{ℕ}
-use mathlib.Core.List.{List}
-use lib.ListN.{length-replicate}
-use Rattle.format.specs.Read.{Found, found, refused, table_read}
-use Rattle.model.specs.Table.{Table}
-use Rattle.tables.specs.Record.{columns}
-use Rattle.tables.specs.Steps.{OutcomeIs, ReadingIs}
-use Rattle.tables.specs.declared.Outcome.{Outcome}
-use Rattle.tables.proofs.Blank.{blank_small, blank_long}
+use Rattle.std.proofs.Common.{refl, rules}
+use Rattle.tables.proofs.Bounds.{zeros_small}
+use Rattle.tables.proofs.Whole.{no_transitions, table_goes_on, table_found}
 use Rattle.tables.proofs.read.Goals as goal
 
-outcome-reading : (x : Found Table) (ranks finals symbol children target code : List ℕ) (o : Outcome) → OutcomeIs x finals (columns ranks symbol children target code) o →
-    ReadingIs x (record {
-      answer = o.answer;
-      table =
-          record {
-            arithmetic = o.arithmetic;
-            states = o.states;
-            symbols = o.symbols;
-            count = o.count;
-            ranks = ranks;
-            finals = finals;
-            symbol = symbol;
-            children = children;
-            target = target;
-            code = code;
-          };
-    })
-outcome-reading (found X end) ranks finals symbol children target code o is = (is.0, record { table = is.1; symbols = is.2 })
-outcome-reading (refused refusal) ranks finals symbol children target code o is = is
+pub read_head-requires : goal.read_head-requires
+read_head-requires c = zeros_small 128
 
-pub fill-outcome-requires : goal.fill-outcome-requires
-fill-outcome-requires c =
-    (blank_small, length-replicate {A = ℕ} 256 0, blank_long)
+pub returns-in_err-end : goal.returns-in_err-end
+returns-in_err-end c =
+    search (rules, no_transitions _ _ _ c.in_ok-next.ensures.head c.in_err-end.field-0.0 c.in_err-end.ensures.finds)
+
+pub returns-then-end-bytes : goal.returns-then-end-bytes
+returns-then-end-bytes c =
+    rw (table_goes_on _ _ _ c.in_ok-next.ensures.head _ _ c.in_ok-end.ensures.finds c.if-end-bytes.true) refl
 
 pub returns : goal.returns
-returns c =
-    outcome-reading (table_read c.args.table.now) _ _ _ _ _ _ c.fill-outcome.result c.fill-outcome.ensures
+returns c = table_found _ _ _ c.in_ok-next.ensures.head _ _ c.in_ok-end.ensures.head c.in_ok-end.ensures.finds c.if-end-bytes.false

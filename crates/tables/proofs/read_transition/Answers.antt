@@ -1,77 +1,56 @@
 -- `tables::read_transition` meets its contract: each return is one case of the definition of a transition.
 -- Assumes nothing.
-use Prim.Native.Nat.{◌*◌, ◌≤◌, ◌<◌}
-use mathlib.Core.Path.{◌≡◌, sym, ap, ◌∙◌}
-use native.Mathlib.Omega.{arith}
-use lib.ListN.{length}
-use Rattle.format.specs.Read.{found, as_found, one_of, many}
-use Rattle.tables.proofs.Bounds.{one_of_below}
-use Rattle.tables.proofs.Row.{Went, filled_next, filled_refused, no_symbol, no_children, row_read}
-use Rattle.tables.proofs.read_transition.Lts as lts
-use Rattle.tables.proofs.read_transition.Tie as tie
-use Rattle.tables.proofs.read_transition.Reads as reads
+use Rattle.std.proofs.Common.{sym, ap, ◌∙◌, rules, ℕ, get_or, arith, length-take, length-drop}
+use Rattle.model.specs.Table.{Transition}
+use Rattle.format.specs.Read.{found, one_of}
+use Rattle.tables.proofs.Filling.{all_found}
+use Rattle.tables.proofs.Row.{no_symbol, no_children, no_target, no_code, transition_found, row_is}
 use Rattle.tables.proofs.read_transition.Goals as goal
 
-abbrev In-Number : Type 0
-In-Number = lts.Past-After-known_told tie.the-claims reads.Pre reads.Post
+pub returns-in_err-symbol-clause-finds : goal.returns-in_err-symbol-clause-finds
+returns-in_err-symbol-clause-finds c =
+    let t = c.args.table.now in
+    search (rules, no_symbol _ t.ranks t.symbols t.states _ (omega arith) c.in_err-symbol.field-0.0 (sym c.in_err-symbol.ensures))
 
-abbrev In-Next : Type 0
-In-Next = lts.Past-After-known_told2 tie.the-claims reads.Pre reads.Post
+pub returns-in_err-next-clause-finds : goal.returns-in_err-next-clause-finds
+returns-in_err-next-clause-finds c =
+    let t = c.args.table.now in
+    let small = c.requires.small c.in_ok-symbol.symbol in
+    let children =
+    all_found (one_of c.args.bytes.now t.states) (get_or t.ranks c.in_ok-symbol.symbol 0) c.in_err-next.ensures
+    (omega (arith, length-take {A = ℕ}, length-drop {A = ℕ})) (λ at result read. search rules) in
+    search (rules, no_children _ t.ranks t.symbols _ _ (omega arith) _ _ (sym c.in_ok-symbol.ensures) c.in_err-next.field-0.0 children)
 
-abbrev After-wide-rank : Type 0
-After-wide-rank = lts.After-wide tie.the-claims reads.Pre reads.Post
+pub returns-in_err-target-clause-finds : goal.returns-in_err-target-clause-finds
+returns-in_err-target-clause-finds c =
+    let t = c.args.table.now in
+    let small = c.requires.small c.in_ok-symbol.symbol in
+    let children =
+    all_found (one_of c.args.bytes.now t.states) (get_or t.ranks c.in_ok-symbol.symbol 0) c.in_ok-next.ensures
+    (omega (arith, length-take {A = ℕ}, length-drop {A = ℕ})) (λ at result read. search rules) in
+    search (rules, no_target _ t.ranks t.symbols _ _ (omega arith) _ _ (sym c.in_ok-symbol.ensures) _ _ children c.in_err-target.field-0.0 (sym c.in_err-target.ensures))
 
-abbrev Start : Type 0
-Start = lts.Start tie.the-claims reads.Pre reads.Post
+pub returns-in_err-code-clause-finds : goal.returns-in_err-code-clause-finds
+returns-in_err-code-clause-finds c =
+    let t = c.args.table.now in
+    let small = c.requires.small c.in_ok-symbol.symbol in
+    let children =
+    all_found (one_of c.args.bytes.now t.states) (get_or t.ranks c.in_ok-symbol.symbol 0) c.in_ok-next.ensures
+    (omega (arith, length-take {A = ℕ}, length-drop {A = ℕ})) (λ at result read. search rules) in
+    search (
+      rules,
+      no_code _ t.ranks t.symbols _ _ (omega arith) _ _ (sym c.in_ok-symbol.ensures) _ _ children _ _ (sym c.in_ok-target.ensures)
+          c.in_err-code.field-0.0 (sym c.in_err-code.ensures),
+    )
 
-few : (c : Start) → c.args.symbols ≤ length c.args.ranks.now
-few c = omega (arith, c.requires.1, c.requires.4.ranks)
-
--- what has been found when the symbol is read
-symbol-found : (c : In-Number) →
-    let a = c.args in
-    one_of a.table.now a.symbols a.place.at ≡ found c.in-Number.n c.in-Number.next.at
-symbol-found c = sym c.number_of.ensures ∙ ap as_found c.in-Number.is
-
-symbol-small : (c : In-Number) → c.in-Number.n < 128
-symbol-small c =
-    let a = c.args in
-    omega (arith, c.requires.1, one_of_below a.table.now a.place.at a.symbols (symbol-found c))
-
-rank_small : (c : After-wide-rank) → c.wide-rank.result ≤ 4
-rank_small c = omega (arith, c.requires.3 c.in-Number.n, c.wide-rank.ensures.0)
-
--- when the children are read
-children-went : (c : In-Next) →
-    let a = c.args in
-    Went (many (one_of a.table.now a.states) c.wide-rank.result c.in-Number.next.at) (a.j * 4) a.children.now c.read_children.new.children c.in-Next.behind
-children-went c =
-    let a = c.args in
-    filled_next _ (a.j * 4) a.children.now _ c.read_children.result _ c.read_children.ensures c.in-Next.is
-
-pub overflow_cast-symbol : goal.overflow_cast-symbol
-overflow_cast-symbol c =
-    omega (arith, symbol-small c.before)
-
-pub bounds-ranks-n : goal.bounds-ranks-n
-bounds-ranks-n c =
-    symbol-small c.before.before.before
-
-pub read_children-requires : goal.read_children-requires
-read_children-requires c =
-    (c.requires.0, omega (arith, rank_small c.before.before, c.requires.2), c.requires.4.children)
-
-pub returns-in-Next : goal.returns-in-Next
-returns-in-Next c =
-    let a = c.args in
-    row_read a.table.now a.ranks.now a.symbol.now a.children.now _ a.target.now a.code.now a.symbols a.states a.place.at _ _ c.wide-rank.result a.j _ (few c.before.before.before.before.before.before.before.before.before.before.before.before.before.before) (symbol-found c.before.before.before.before.before.before.before.before.before.before.before) c.wide-rank.ensures.0 (symbol-small c.before.before.before.before.before.before.before.before.before.before.before) (children-went c.before.before.before.before) c.requires.2 c.requires.4 _ _ c.read_target_and_code.result c.read_target_and_code.ensures
-
-pub returns-in-Refused-read_children : goal.returns-in-Refused-read_children
-returns-in-Refused-read_children c =
-    let a = c.args in
-    rw (no_children a.table.now a.ranks.now a.symbols a.states a.place.at (few c.before.before.before.before.before.before.before.before.before.before.before) _ _ c.wide-rank.result (symbol-found c.before.before.before.before.before.before.before.before) c.wide-rank.ensures.0 _ (filled_refused _ (a.j * 4) a.children.now _ c.read_children.result _ c.read_children.ensures c.in-Refused-read_children.is))
-
-pub returns-in-Refused : goal.returns-in-Refused
-returns-in-Refused c =
-    let a = c.args in
-    rw (no_symbol a.table.now a.ranks.now a.symbols a.states a.place.at (few c.before.before.before.before) _ (sym c.number_of.ensures ∙ ap as_found c.in-Refused.is))
+pub returns-clause-finds : goal.returns-clause-finds
+returns-clause-finds c =
+    let t = c.args.table.now in
+    let small = c.requires.small c.in_ok-symbol.symbol in
+    let children =
+    all_found (one_of c.args.bytes.now t.states) (get_or t.ranks c.in_ok-symbol.symbol 0) c.in_ok-next.ensures
+    (omega (arith, length-take {A = ℕ}, length-drop {A = ℕ})) (λ at result read. search rules) in
+    transition_found _ t.ranks t.symbols _ _ (omega arith) _ _ (sym c.in_ok-symbol.ensures) _ _ children _ _ (sym c.in_ok-target.ensures) _ _ (sym c.in_ok-code.ensures)
+    ∙ ap (λ (row : Transition). found row c.in_ok-code.next.at)
+    (sym (row_is t.ranks t.symbol t.children t.target t.code c.read_all.new.slice c.args.j _ _ _ _
+    (omega arith) (omega arith) (omega arith) (omega arith) (omega (arith, length-take {A = ℕ}, length-drop {A = ℕ}))))

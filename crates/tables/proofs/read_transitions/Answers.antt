@@ -1,35 +1,37 @@
--- `tables::read_transitions` meets its contract. The invariant is `Rowing`: so many transitions are in the columns, each above the
--- one before.
+-- `tables::read_transitions` meets its contract. The invariant is `Rowing`.
 -- Assumes nothing.
-use native.Mathlib.Omega.{arith}
-use lib.ListN.{take}
-use Rattle.tables.specs.Record.{columns}
-use Rattle.tables.proofs.Rows.{row_next, row_refused, rowing_starts, rowing_goes_on, rowing_ends, rowing_refused}
+use Rattle.std.proofs.Common.{sym, ◌∙◌, refl, rules, arith}
+use Rattle.tables.specs.Steps.{Small}
+use Rattle.tables.proofs.Rows.{rowing_starts, rowing_refused, rowing_falls, rowing_goes_on, rowing_ends}
 use Rattle.tables.proofs.read_transitions.Goals as goal
 
 pub loop-j-init : goal.loop-j-init
-loop-j-init c =
-    let a = c.args in
-    rowing_starts a.table.now (take a.symbols a.ranks.now) a.states a.count a.place.at (columns a.ranks.now a.symbol.now a.children.now a.target.now a.code.now) c.requires.4
+loop-j-init c = record {
+  head = record { arithmetic = refl; states = refl; symbols = refl; count = refl; ranks = refl; finals = refl };
+  rows = rowing_starts _ _ _ _ _ _;
+}
 
-pub read_above-requires : goal.read_above-requires
-read_above-requires c =
-    (c.requires.0, c.requires.1, omega (arith, c.requires.2, c.loop-j-test.true), c.requires.3, c.loop-j.invariant.long)
+pub returns-in_err-next-clause-finds : goal.returns-in_err-next-clause-finds
+returns-in_err-next-clause-finds c =
+    let head = c.loop-j.invariant.head in
+    search (rules, rowing_refused _ _ _ _ _ _ _ _ c.loop-j.invariant.rows (omega arith) c.in_err-next.field-0.0 (rw (head.symbols, head.ranks, head.states) at c.in_err-next.ensures.finds))
 
-pub returns-in-Refused : goal.returns-in-Refused
-returns-in-Refused c =
-    let a = c.args in
-    let l = c.loop-j in
-    rowing_refused a.table.now (take a.symbols a.ranks.now) a.states a.count a.place.at (columns a.ranks.now l.symbol l.children l.target l.code) _ l.j l.next.at l.invariant c.loop-j-test.true _ (row_refused _ l.j _ _ c.read_above.result _ c.read_above.ensures c.in-Refused.is)
+pub returns-then-not-ascends-clause-finds : goal.returns-then-not-ascends-clause-finds
+returns-then-not-ascends-clause-finds c =
+    let head = c.loop-j.invariant.head in
+    let found = rw (head.symbols, head.ranks, head.states) at c.in_ok-next.ensures.finds in
+    let small : Small c.loop-j.table.ranks = rw head.ranks c.requires.small in
+    rowing_falls _ _ _ _ _ _ _ _ c.loop-j.invariant.rows (omega arith) _ _ found c.in_ok-next.ensures.kept small (sym c.ascends.ensures ∙ c.if-not-ascends.true)
 
 pub loop-j-preserved : goal.loop-j-preserved
 loop-j-preserved c =
-    let a = c.args in
-    let l = c.loop-j in
-    rowing_goes_on a.table.now (take a.symbols a.ranks.now) a.states a.count a.place.at (columns a.ranks.now l.symbol l.children l.target l.code) _ l.j l.next.at l.invariant c.loop-j-test.true _ (row_next _ l.j _ _ c.read_above.result _ c.read_above.ensures c.in-Next.is) c.requires.3
+    let head = c.loop-j.invariant.head in
+    let found = rw (head.symbols, head.ranks, head.states) at c.in_ok-next.ensures.finds in
+    let small : Small c.loop-j.table.ranks = rw head.ranks c.requires.small in
+    record {
+      head = search rules;
+      rows = rowing_goes_on _ _ _ _ _ _ _ _ c.loop-j.invariant.rows (omega arith) _ _ found c.in_ok-next.ensures.kept small (sym c.ascends.ensures ∙ c.if-not-ascends.false);
+    }
 
-pub returns : goal.returns
-returns c =
-    let a = c.args in
-    let l = c.loop-j in
-    rowing_ends a.table.now (take a.symbols a.ranks.now) a.states a.count a.place.at (columns a.ranks.now l.symbol l.children l.target l.code) l.j l.next.at l.invariant c.loop-j-test.false
+pub returns-clause-finds : goal.returns-clause-finds
+returns-clause-finds c = rowing_ends _ _ _ _ _ _ _ _ c.loop-j.invariant.rows (omega arith)

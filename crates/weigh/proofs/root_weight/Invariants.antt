@@ -1,16 +1,11 @@
--- `weigh::root_weight` meets its contract. The invariant is `Totalling`.
+-- `weigh::root_weight` meets its contract. The invariant: x stands for the sum over the states so far.
 -- Assumes nothing.
-use Prim.Native.Nat.{◌-◌}
-use lib.IntN.{pos}
-use lib.ListN.{get_or}
-use Rattle.theory.specs.Arithmetic.{arithmetic as semiring, meaning}
-use Rattle.arith.specs.Numbers.{weight_of}
-use Rattle.weigh.proofs.Totalling.{Totalling}
+use Rattle.std.proofs.Common.{length}
+use Rattle.weigh.specs.Numbers.{StandsFor}
+use Rattle.weigh.specs.Rows.{final_sum}
 use Rattle.weigh.proofs.root_weight.Given as goal
+use Rattle.theory.specs.Arithmetic.{arithmetic_number}
 
-abbrev pub invariant-loop-q : goal.invariant-loop-q
-invariant-loop-q l =
-    Totalling l.arithmetic l.states (λ p. (semiring l.arithmetic).times (meaning l.arithmetic (get_or l.finals p 0)) (weight_of l.arithmetic (get_or l.sheet p (pos 0)))) l.q l.x
-
-abbrev pub decreases-loop-q : goal.decreases-loop-q
-decreases-loop-q l = l.states - l.q
+abbrev pub invariant-loop-weight : goal.invariant-loop-weight
+invariant-loop-weight l =
+    StandsFor (arithmetic_number l.t.arithmetic) 4097 (final_sum (arithmetic_number l.t.arithmetic) (length l.yielded) l.t.finals l.sheet) l.x

@@ -1,14 +1,10 @@
--- `grouping::keys::sum_up_members` meets its contract. The invariant is `Profiling`: the profiles of i states are there. Assumes nothing.
-use Prim.Native.Nat.{◌-◌, ◌≤◌}
+-- `grouping::keys::sum_up_members` meets its contract. The invariant: the profiles of the members so far are there. Assumes nothing.
 use Rattle.theory.specs.Blocks.{block_of}
-use Rattle.theory.specs.Direction.{direction as side_of}
-use Rattle.grouping.specs.Keys.{entry_of}
-use Rattle.grouping.proofs.Profiling.{Profiling}
+use Rattle.grouping.specs.Keys.{entry_in}
+use Rattle.grouping.specs.Steps.{AllProfiledIn}
 use Rattle.grouping.proofs.keys.sum_up_members.Given as goal
+use Rattle.theory.specs.Arithmetic.{arithmetic_number}
 
-abbrev pub invariant-loop-i : goal.invariant-loop-i
-invariant-loop-i l =
-    (l.i ≤ l.many) × Profiling l.starts l.list (entry_of (side_of l.direction) l.ranks l.symbol l.children l.target l.code (block_of l.digits)) l.arithmetic l.found l.ends l.keys l.codes l.i
-
-abbrev pub decreases-loop-i : goal.decreases-loop-i
-decreases-loop-i l = l.many - l.i
+abbrev pub invariant-loop-p : goal.invariant-loop-p
+invariant-loop-p l =
+    AllProfiledIn (entry_in l.direction l.table (block_of l.blocks.list)) (arithmetic_number l.table.arithmetic) l.uses l.p-index l.members l.ends l.entries

@@ -1,35 +1,19 @@
--- `partition::parts::largest` meets its contract. The invariant is `Sizing`: the best part so far is one of the parts. Assumes nothing.
-use Prim.Native.Nat.{◌<◌}
-use native.Mathlib.Omega.{arith}
-use Rattle.partition.proofs.Sizes.{sizing_starts, sizing_goes_on}
+-- `partition::parts::largest` meets its contract. Assumes nothing.
+use Rattle.std.proofs.Common.{arith, rules, ℕ, get_or}
+use Rattle.std.proofs.lemmas.List.{get_or-replicate}
+use Rattle.std.proofs.lemmas.Grind.{common_steps}
 use Rattle.partition.proofs.parts.largest.Goals.{then-sizes-best, else-sizes-best}
 use Rattle.partition.proofs.parts.largest.Goals as goal
 
-pub loop-i-init : goal.loop-i-init
-loop-i-init c = sizing_starts c.args.many c.args.parts c.requires.1
+pub loop-m-init : goal.loop-m-init
+loop-m-init c = (search rules, c.requires.some, λ m l. omega (arith, get_or-replicate {A = ℕ} 256 m 0 0 l))
 
-pub overflow_add-size : goal.overflow_add-size
-overflow_add-size c = omega (arith, c.loop-i.invariant.sizes_few c.wide-m.result c.wide-m.ensures.1, c.loop-i.invariant.some)
-
-pub offset_bounds-sizes-best : goal.offset_bounds-sizes-best
-offset_bounds-sizes-best c = omega (arith, c.loop-i.invariant.best_known, c.requires.2)
-
-pub bounds-sizes-best : goal.bounds-sizes-best
-bounds-sizes-best c = omega (arith, c.loop-i.invariant.best_known, c.requires.2)
-
-pub loop-i-smaller : goal.loop-i-smaller
-loop-i-smaller c = let l = c.loop-i in let more = c.loop-i-test.true in omega arith
-
-pub loop-i-preserved : goal.loop-i-preserved
-loop-i-preserved c =
-    let l = c.loop-i in
-    let more = c.loop-i-test.true in
-    let known : c.if-sizes-best.best < c.args.parts =
-    elim c.if-sizes-best.branch [
-      | then-sizes-best w ↦ rw (w.best-is, c.wide-m.ensures.0) (c.requires.4 l.i more)
-      | else-sizes-best w ↦ rw w.best-is l.invariant.best_known
-    ] in
-    sizing_goes_on c.args.many c.args.parts l.sizes l.best l.i l.invariant more c.wide-m.result c.if-sizes-best.best known
-
-pub returns : goal.returns
-returns c = c.loop-i.invariant.best_known
+pub loop-m-preserved : goal.loop-m-preserved
+loop-m-preserved c = (
+  search rules,
+  elim c.if-sizes-best.branch [
+    | then-sizes-best w ↦ rw w.best-is (c.requires.within c.loop-m.m-index c.loop-m-test.true)
+    | else-sizes-best w ↦ rw w.best-is c.loop-m.invariant.1
+  ],
+  λ m l. let so_far = c.loop-m.invariant.2 in let own = so_far (get_or c.args.part.now c.loop-m.m-index 0) in grind (arith, common_steps),
+)

@@ -1,11 +1,7 @@
--- `partition::parts::largest` meets its contract. The invariant is `Sizing`: the best part so far is one of the parts. Assumes nothing.
-use Prim.Native.Nat.{◌-◌}
-use Rattle.partition.proofs.Sizes.{Sizing}
+-- `partition::parts::largest` meets its contract. The invariant: the best part so far is one of the parts, and no size is above the number
+-- of members counted. Assumes nothing.
+use Rattle.std.proofs.Common.{ℕ, ◌<◌, ◌≤◌, get_or, length, ◌≡◌}
 use Rattle.partition.proofs.parts.largest.Given as goal
 
-abbrev pub invariant-loop-i : goal.invariant-loop-i
-invariant-loop-i l =
-    Sizing l.many l.parts l.sizes l.best l.i
-
-abbrev pub decreases-loop-i : goal.decreases-loop-i
-decreases-loop-i l = l.many - l.i
+abbrev pub invariant-loop-m : goal.invariant-loop-m
+invariant-loop-m l = (length l.sizes ≡ 256) × (l.best < l.parts) × ((m : ℕ) → m < 256 → get_or l.sizes m 0 ≤ l.m-index)
