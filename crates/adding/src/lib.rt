@@ -148,8 +148,8 @@ fn counts(direction: Direction, table: &TableRecord, j: usize, named: &[bool; 25
     }
 }
 
-// The key of transition j's blocks, as one number: the symbol, the children's blocks, the target's block. (The keys of `grouping` are
-// packed by a loop like this one: it is three lines, and reads the blocks from a list of digits, which is not made here.)
+// The key of transition j's blocks, as one number: the symbol, the children's blocks, the target's block. (The backward keys of
+// `grouping` are packed by the same loop: one function for both belongs below both crates, docs/DESIGN-PASS.md.)
 fn key_of(table: &TableRecord, j: usize, blocks: &BlockList) -> u64
     requires { RowIn table.now j }
     ensures { result ≡ pack (block_key (block_of blocks.now.list) (row_in table.now j)) }

@@ -76,7 +76,7 @@ pub fn pick<'a>(first: &'a [u8], second: &'a [u8]) -> &'a [u8]
     }
 }
 
-// The code and the figure of a pick.
+// The code and the figure of a pick: numbers, as document 01 has them come from a second call.
 #[derive(Clone, Copy, Debug, PartialEq, Eq)]
 pub struct PickAnswer {
     pub code: u32,

@@ -27,7 +27,7 @@ fn alike(p: State, q: State, uses: &Uses, ends: &[u16; 256], entries: &Entries) 
     entries.same(first, second)
 }
 
-// The first of the parts whose leader has p's profile, if there is one.
+// The first of the parts whose leader has p's profile, if there is one. (Tried with `position`: two goals stay open.)
 fn find_part(
     p: State,
     leaders: &[u8],

@@ -14,7 +14,7 @@ pub struct Gathered {
     pub clean: Option<usize>,
 }
 
-// The first dirty state. (A loop and no chain with `position`, for the reason at `count_dirty`.)
+// The first dirty state. (A loop as in `count_dirty`; a chain with `position` has not been measured.)
 pub fn first_dirty(states: usize, dirty: &[bool; 256]) -> Option<State>
     requires { states ≤ 256 }
     ensures { MatchOption result

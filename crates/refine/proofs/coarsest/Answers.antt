@@ -5,10 +5,13 @@ use Rattle.theory.specs.Direction.{other}
 use Rattle.refine.proofs.Coarsening.{coarsening_settled, coarsening_ends, coarsening_count}
 use Rattle.refine.proofs.Known.{count_few, symbol_known, row}
 use Rattle.refine.proofs.Listed.{uses_listed}
+use Rattle.uses.specs.Tables.{ReadableTable}
+use Rattle.refine.proofs.coarsest.Goals.{Start}
 use Rattle.refine.proofs.coarsest.Goals as goal
 
-pub fill-requires : goal.fill-requires
-fill-requires c = record {
+-- the index of either direction can be made of the table
+readable : (c : Start) → ReadableTable c.args.table.now
+readable c = record {
   ranks_long = search rules;
   symbol_long = search rules;
   children_long = search rules;
@@ -17,15 +20,11 @@ fill-requires c = record {
   symbol_known = symbol_known c.requires.holds c.requires.proper;
 }
 
+pub fill-requires : goal.fill-requires
+fill-requires c = readable (goal.at.fill-requires c).Start
+
 pub fill-requires-2 : goal.fill-requires-2
-fill-requires-2 c = record {
-  ranks_long = search rules;
-  symbol_long = search rules;
-  children_long = search rules;
-  target_long = search rules;
-  count_few = count_few c.requires.holds c.requires.proper;
-  symbol_known = symbol_known c.requires.holds c.requires.proper;
-}
+fill-requires-2 c = readable (goal.at.fill-requires-2 c).Start
 
 pub split_until_clean-refined-requires-clause-own_listed : goal.split_until_clean-refined-requires-clause-own_listed
 split_until_clean-refined-requires-clause-own_listed c = uses_listed c.args.table.now c.args.direction c.fill.new.self c.fill.ensures (row c.requires.holds c.requires.proper)
