@@ -22,6 +22,11 @@ abbrev pub arithmetic_number : Arithmetic → ℕ
 arithmetic_number Modular = 0
 arithmetic_number MaxPlus = 1
 
+-- 0 is modular, and every other number max and plus
+abbrev pub arithmetic_of : ℕ → Arithmetic
+arithmetic_of zero = Modular
+arithmetic_of (suc a) = MaxPlus
+
 -- a number from 0 to 1 is an arithmetic's, and no other is
 abbrev pub ArithmeticFor : ℕ → Result Arithmetic NoArithmetic → Type 0
 ArithmeticFor n r = MatchResult r (λ a. arithmetic_number a ≡ n) (λ none. (none.0 ≡ n) × (1 < n))

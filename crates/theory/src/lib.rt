@@ -3,9 +3,9 @@
 
 #![tactic(auto)]
 
-ghost use Rattle.std.specs.Prelude.{◌≡◌};
-ghost use Rattle.theory.specs.Arithmetic.{ArithmeticFor, arithmetic_number};
-ghost use Rattle.theory.specs.Direction.{DirectionFor, other};
+ghost use Rattle.std.specs.Prelude.{◌≡◌, ℕ};
+ghost use Rattle.theory.specs.Arithmetic.{ArithmeticFor, arithmetic_number, arithmetic_of};
+ghost use Rattle.theory.specs.Direction.{DirectionFor, direction, other};
 
 // What the codes of a table mean, and how they are summed and multiplied.
 #[derive(Clone, Copy, Debug, PartialEq, Eq)]
@@ -46,6 +46,34 @@ impl Arithmetic {
     }
 }
 
+// What a function takes that needs an arithmetic: one of the two, or a number, of which 0 is modular and every other max and plus.
+pub trait IntoArithmetic {
+    // the number by which the definitions name it
+    ghost number: { Self → ℕ };
+
+    fn into_arithmetic(self) -> Arithmetic
+        ensures { result ≡ arithmetic_of (number self) };
+}
+
+impl IntoArithmetic for Arithmetic {
+    ghost number = { arithmetic_number };
+
+    fn into_arithmetic(self) -> Arithmetic {
+        self
+    }
+}
+
+impl IntoArithmetic for u32 {
+    ghost number = { λ number. number };
+
+    fn into_arithmetic(self) -> Arithmetic {
+        match self {
+            0 => Arithmetic::Modular,
+            _ => Arithmetic::MaxPlus,
+        }
+    }
+}
+
 // Backward, states are told apart by the transitions into them; forward, by those in which they are a child.
 #[derive(Clone, Copy, Debug, PartialEq, Eq)]
 pub enum Direction {
@@ -79,6 +107,35 @@ impl Direction {
         match self {
             Direction::Backward => Direction::Forward,
             Direction::Forward => Direction::Backward,
+        }
+    }
+}
+
+// What a function takes that needs a direction: one of the two, or a number, of which 0 is backward and every other forward.
+pub trait IntoDirection {
+    ghost use Rattle.theory.specs.declared.Direction.{Direction};
+
+    ghost side: { Self → Direction };
+
+    fn into_direction(self) -> Direction
+        ensures { result ≡ side self };
+}
+
+impl IntoDirection for Direction {
+    ghost side = { λ direction. direction };
+
+    fn into_direction(self) -> Direction {
+        self
+    }
+}
+
+impl IntoDirection for u32 {
+    ghost side = { direction };
+
+    fn into_direction(self) -> Direction {
+        match self {
+            0 => Direction::Backward,
+            _ => Direction::Forward,
         }
     }
 }
