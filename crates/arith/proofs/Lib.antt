@@ -1,3 +1,4 @@
+pub mod Cases
 pub mod Codes
 pub mod Sums
 pub mod Products

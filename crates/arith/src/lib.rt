@@ -3,29 +3,29 @@
 #![tactic(auto)]
 
 ghost use Rattle.std.specs.Prelude.{◌≡◌, ◌*◌, ◌%◌, ◌^◌};
-ghost use Rattle.theory.specs.Arithmetic.{arithmetic as semiring, arithmetic_number, meaning, code_of};
+ghost use Rattle.theory.specs.Arithmetic.{arithmetic as semiring, meaning, code_of};
 ghost use Rattle.arith.specs.Numbers.{value_in, number_of, weight_of, Stands, InSheet};
 
-use theory::Arithmetic;
+use theory::{Arithmetic, IntoArithmetic};
 
 // What stands for nothing in a sheet, which is C's memory: it is below every number.
 pub const NOTHING: i64 = i64::MIN;
 
 // The code of the sum of two meanings.
-pub fn sum_of_codes(arithmetic: Arithmetic, a: u32, b: u32) -> u32
-    ensures { result ≡ code_of (arithmetic_number arithmetic) ((semiring (arithmetic_number arithmetic)).plus (meaning (arithmetic_number arithmetic) a) (meaning (arithmetic_number arithmetic) b)) }
+pub fn sum_of_codes<A: IntoArithmetic>(arithmetic: A, a: u32, b: u32) -> u32
+    ensures { result ≡ code_of (A.number arithmetic) ((semiring (A.number arithmetic)).plus (meaning (A.number arithmetic) a) (meaning (A.number arithmetic) b)) }
 {
-    match arithmetic {
+    match arithmetic.into_arithmetic() {
         Arithmetic::Modular => a.wrapping_add(b),
         Arithmetic::MaxPlus => { if meaning_of(a) <= meaning_of(b) { b } else { a } }
     }
 }
 
 // The number that stands for a code's meaning in a sheet.
-pub fn number_of_code(arithmetic: Arithmetic, code: u32) -> i64
-    ensures { result ≡ number_of (arithmetic_number arithmetic) (meaning (arithmetic_number arithmetic) code) }
+pub fn number_of_code<A: IntoArithmetic>(arithmetic: A, code: u32) -> i64
+    ensures { result ≡ number_of (A.number arithmetic) (meaning (A.number arithmetic) code) }
 {
-    match arithmetic {
+    match arithmetic.into_arithmetic() {
         Arithmetic::Modular => code as i64,
         Arithmetic::MaxPlus => match meaning_of(code) {
             None => NOTHING,
@@ -35,25 +35,25 @@ pub fn number_of_code(arithmetic: Arithmetic, code: u32) -> i64
 }
 
 // The sum of two numbers of a sheet.
-pub fn sum(arithmetic: Arithmetic, a: i64, b: i64) -> i64
-    requires a_stands { Stands (arithmetic_number arithmetic) a }
-    requires b_stands { Stands (arithmetic_number arithmetic) b }
-    ensures { result ≡ number_of (arithmetic_number arithmetic) ((semiring (arithmetic_number arithmetic)).plus (weight_of (arithmetic_number arithmetic) a) (weight_of (arithmetic_number arithmetic) b)) }
+pub fn sum<A: IntoArithmetic>(arithmetic: A, a: i64, b: i64) -> i64
+    requires a_stands { Stands (A.number arithmetic) a }
+    requires b_stands { Stands (A.number arithmetic) b }
+    ensures { result ≡ number_of (A.number arithmetic) ((semiring (A.number arithmetic)).plus (weight_of (A.number arithmetic) a) (weight_of (A.number arithmetic) b)) }
 {
-    match arithmetic {
+    match arithmetic.into_arithmetic() {
         Arithmetic::Modular => (a as u32).wrapping_add(b as u32) as i64,
         Arithmetic::MaxPlus => a.max(b),
     }
 }
 
 // The product of two numbers of a sheet, where it has a number there.
-pub fn product(arithmetic: Arithmetic, a: i64, b: i64) -> i64
-    requires a_stands { Stands (arithmetic_number arithmetic) a }
-    requires b_stands { Stands (arithmetic_number arithmetic) b }
-    requires in_sheet { InSheet (arithmetic_number arithmetic) ((semiring (arithmetic_number arithmetic)).times (weight_of (arithmetic_number arithmetic) a) (weight_of (arithmetic_number arithmetic) b)) }
-    ensures { result ≡ number_of (arithmetic_number arithmetic) ((semiring (arithmetic_number arithmetic)).times (weight_of (arithmetic_number arithmetic) a) (weight_of (arithmetic_number arithmetic) b)) }
+pub fn product<A: IntoArithmetic>(arithmetic: A, a: i64, b: i64) -> i64
+    requires a_stands { Stands (A.number arithmetic) a }
+    requires b_stands { Stands (A.number arithmetic) b }
+    requires in_sheet { InSheet (A.number arithmetic) ((semiring (A.number arithmetic)).times (weight_of (A.number arithmetic) a) (weight_of (A.number arithmetic) b)) }
+    ensures { result ≡ number_of (A.number arithmetic) ((semiring (A.number arithmetic)).times (weight_of (A.number arithmetic) a) (weight_of (A.number arithmetic) b)) }
 {
-    match arithmetic {
+    match arithmetic.into_arithmetic() {
         Arithmetic::Modular => wrapping_product(a as u32, b as u32) as i64,
         Arithmetic::MaxPlus => {
             if a == NOTHING || b == NOTHING {
