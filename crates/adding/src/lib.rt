@@ -22,19 +22,20 @@ use partition::{BlockList, NameList};
 use profiles::{Entries, Region, SYMBOL};
 use states::{Block, State};
 use tables::TableRecord;
-use theory::Direction;
+use theory::{Direction, IntoDirection};
 
 // The table collapsed by its blocks, of which there are `number`. The entries are lent to work in.
-pub fn add_up(
-    direction: Direction,
+pub fn add_up<D: IntoDirection>(
+    direction: D,
     table: &TableRecord,
     blocks: &BlockList,
     number: usize,
     entries: &mut Entries,
 ) -> TableRecord
-    requires { Collapsible direction table.now blocks.now.list number }
-    ensures { CollapsedTo direction table.now blocks.now.list result }
+    requires { Collapsible (D.side direction) table.now blocks.now.list number }
+    ensures { CollapsedTo (D.side direction) table.now blocks.now.list result }
 {
+    let direction = direction.into_direction();
     let names = name_members(table.states, blocks);
     let finals = final_codes(direction, table, number, blocks, &names);
     let many = gather(direction, table, blocks, &names, entries);

@@ -13,12 +13,12 @@ ghost use Rattle.dependents.specs.Tables.{ChildOf, LeadsToIn, DependsIn, Depends
 
 use states::State;
 use tables::TableRecord;
-use theory::Direction;
+use theory::{Direction, IntoDirection};
 use uses::Uses;
 
 // Marks the states that depend on a member whose part does not keep the block's number. The uses are those of the other direction.
-pub fn mark_moved(
-    direction: Direction,
+pub fn mark_moved<D: IntoDirection>(
+    direction: D,
     members: &[u8],
     part: &[u8; 256],
     keeper: usize,
@@ -27,9 +27,10 @@ pub fn mark_moved(
     dirty: &mut [bool; 256],
 )
     requires few { length members.now ≤ 256 }
-    requires uses { ListsUses (other direction) table.now uses.now }
-    ensures { Marked (DependsOnMovedIn direction members.now part.now keeper table.now uses.now) dirty.old dirty.new }
+    requires uses { ListsUses (other (D.side direction)) table.now uses.now }
+    ensures { Marked (DependsOnMovedIn (D.side direction) members.now part.now keeper table.now uses.now) dirty.old dirty.new }
 {
+    let direction = direction.into_direction();
     for (member, own) in members.iter().zip(part) {
         if *own as usize != keeper {
             mark(direction, State(*member), table, uses, dirty);

@@ -15,12 +15,12 @@ ghost use Rattle.theory.specs.Arithmetic.{arithmetic_number};
 use partition::BlockList;
 use profiles::Entries;
 use tables::TableRecord;
-use theory::Direction;
+use theory::IntoDirection;
 use uses::Uses;
 
 // Puts members into parts by their profiles under the present blocks. Answers how many parts there are.
-pub fn group(
-    direction: Direction,
+pub fn group<D: IntoDirection>(
+    direction: D,
     table: &TableRecord,
     uses: &Uses,
     members: &[u8],
@@ -29,9 +29,10 @@ pub fn group(
     entries: &mut Entries,
 ) -> usize
     requires few { length members.now ≤ 256 }
-    requires uses { ListsUses direction table.now uses.now }
-    ensures { Grouped (arithmetic_number table.now.arithmetic) (λ p. map (entry_in direction table.now (block_of blocks.now.list)) (listed_in uses.now p)) (length members.now) members.now result part.new }
+    requires uses { ListsUses (D.side direction) table.now uses.now }
+    ensures { Grouped (arithmetic_number table.now.arithmetic) (λ p. map (entry_in (D.side direction) table.now (block_of blocks.now.list)) (listed_in uses.now p)) (length members.now) members.now result part.new }
 {
+    let direction = direction.into_direction();
     // a member that is alone has no profile to compare
     if members.len() == 1 {
         part[0] = 0;

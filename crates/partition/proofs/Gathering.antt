@@ -102,7 +102,7 @@ module _ (D : ℕ) (blocks : List ℕ) (dirty : List Bool) where
           dirties r l b g (yes e) = (count, omega arith, at_last found count room q ∙ sym e)
           dirties r l b g (no d) = let m = now.so_far.dirty_found r (omega arith) b g in (m.0, omega (arith, m.1), before_last found count room q m.0 m.1 ∙ m.2)
 
-    pub gathering_ends : left ≡ 0 → q ≤ n → DirtyMembers D n blocks dirty found count
+    gathering_ends : left ≡ 0 → q ≤ n → DirtyMembers D n blocks dirty found count
     gathering_ends none inside = record {
       few = omega (arith, now.so_far.few, now.rest);
       members = λ i l. let m = now.so_far.members i l in (omega (arith, m.0), m.1);
@@ -112,6 +112,10 @@ module _ (D : ℕ) (blocks : List ℕ) (dirty : List Bool) where
         go : (r : ℕ) → r < n → get_or blocks r 0 ≡ D → flag dirty r ≡ true → Dec (r < q) → (i : ℕ) × (i < count) × (get_or found i 0 ≡ r)
         go r l b f (yes h) = now.so_far.dirty_found r h b f
         go r l b f (no h) = absurd (omega (arith, count_above dirty q r n (omega arith) l f, now.rest))
+
+    -- the loop's invariant: all dirty members are found once none of the dirty states is left
+    pub gathering_to_end : q ≤ n → Gathering n found left count q × (left ≡ 0 → DirtyMembers D n blocks dirty found count)
+    gathering_to_end inside = (now, λ none. gathering_ends none inside)
 
   -- the dirty members, and the clean one if there is one
   module _ (n : ℕ) (found : List ℕ) (count : ℕ) (dirties : DirtyMembers D n blocks dirty found count) where

@@ -7,7 +7,7 @@ use crate::BlockList;
 use states::{Block, State};
 
 // The members found, how many they are, and the place of the clean one among them, if there is one.
-#[derive(Drop)]
+#[derive(Clone, Copy)]
 pub struct Gathered {
     pub found: [u8; 256],
     pub count: usize,

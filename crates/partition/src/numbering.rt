@@ -6,13 +6,14 @@ ghost use Rattle.partition.specs.Numbering.{Started, FirstAlike, FirstUsed};
 
 use crate::{BlockList, Partition};
 use states::State;
-use theory::Direction;
+use theory::{Direction, IntoDirection};
 
 // Backward one block, forward a block for each final weight.
-pub fn start(direction: Direction, states: usize, finals: &[u32; 256]) -> Partition
+pub fn start<D: IntoDirection>(direction: D, states: usize, finals: &[u32; 256]) -> Partition
     requires { states ≤ 256 }
-    ensures { Started direction states finals.now result.blocks.list result.number }
+    ensures { Started (D.side direction) states finals.now result.blocks.list result.number }
 {
+    let direction = direction.into_direction();
     let mut list = [0; 256];
     let mut number = 0;
     for q in 0..states {

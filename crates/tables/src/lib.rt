@@ -15,7 +15,7 @@ use theory::Arithmetic;
 
 // A table in memory. Of each array the first places count: as many as there are symbols, states or transitions. Columns, and not an array
 // of transitions: one of those would pad ten bytes to twelve, in each record that stands on the stack.
-#[derive(Drop)]
+#[derive(Clone, Copy)]
 pub struct TableRecord {
     pub arithmetic: Arithmetic,
     pub states: usize,

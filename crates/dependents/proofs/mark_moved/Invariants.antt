@@ -5,5 +5,5 @@ use Rattle.dependents.specs.Tables.{DependsIn}
 use Rattle.dependents.proofs.mark_moved.Given as goal
 
 abbrev pub invariant-loop-member : goal.invariant-loop-member
-invariant-loop-member l =
+invariant-loop-member g l =
     Marked (λ q. SomeIn 0 (length l.yielded) (λ i. (get_or l.part i 0 ≢ l.keeper) × DependsIn l.direction l.table l.uses (get_or l.members i 0) q)) l.initial.dirty l.dirty

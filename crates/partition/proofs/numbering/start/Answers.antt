@@ -5,7 +5,7 @@ use Rattle.partition.proofs.numbering.start.Goals.{in-Some, in-None}
 use Rattle.partition.proofs.numbering.start.Goals as goal
 
 pub loop-q-preserved : goal.loop-q-preserved
-loop-q-preserved c =
+loop-q-preserved g c =
     let so_far = c.loop-q.invariant in
     let inside : c.loop-q.q < 256 = omega arith in
     elim c.match-first_alike.branch [

@@ -4,4 +4,4 @@ use Rattle.partition.specs.Numbering.{Started}
 use Rattle.partition.proofs.numbering.start.Given as goal
 
 abbrev pub invariant-loop-q : goal.invariant-loop-q
-invariant-loop-q l = (l.number ≤ l.q) × Started l.direction l.q l.finals l.list l.number
+invariant-loop-q g l = (l.number ≤ l.q) × Started l.direction l.q l.finals l.list l.number
