@@ -1,6 +1,6 @@
 -- Document 01's table "Numbers that come back", with what document 02 adds to it: the code and the figure of each refusal, and of each
 -- answer.
-use Rattle.std.specs.Prelude.{ℕ, ◌+◌, ◌*◌, ◌^◌, Bool, ◌&&◌, ltb, Result, Ok, Err}
+use Rattle.std.specs.Prelude.{ℕ, ◌+◌, ◌*◌, ◌^◌, Bool, ◌&&◌, ltb, Result, Ok, Err, List, ◌++◌, codes, decimal}
 use Rattle.answers.specs.declared.Refusal.{Refusal}
 
 -- a code is from 1 to 99: 0 is "done", and a second table's codes come back with 100 added
@@ -37,6 +37,10 @@ code_of refusal = (line_of refusal).code
 
 abbrev pub refusal_figure : Refusal → ℕ
 refusal_figure refusal = (line_of refusal).figure
+
+-- both in decimal digits, as `4 at 17`
+abbrev pub refusal_text : Refusal → List ℕ
+refusal_text refusal = decimal (code_of refusal) ++ codes " at " ++ decimal (refusal_figure refusal)
 
 abbrev pub answer_code : Result ℕ Refusal → ℕ
 answer_code (Ok figure) = 0

@@ -1,16 +1,15 @@
 -- What the machine's sums of codes and of sheet numbers stand for, in each arithmetic.
-use Rattle.std.proofs.Common.{◌≡◌, ℕ, ◌+◌, ◌%◌, ◌^◌, ◌<◌, true, false, ℤ, pos, nat_abs, sym, refl, ap, ◌∙◌, arith, w64, SFits, to_z, of_z}
-use Rattle.std.proofs.Common.{Option, None, Some, Bool, cond, ap₂, not, int_lt}
+use Rattle.std.proofs.Common.{◌≡◌, ◌≢◌, ℕ, zero, suc, ◌+◌, ◌%◌, ◌^◌, ◌<◌, true, false, ℤ, pos, nat_abs, sym, refl, ap, ◌∙◌, arith, w64, SFits, to_z, of_z}
+use Rattle.std.proofs.Common.{Bool, cond, not, int_lt}
 use Rattle.std.specs.Int.{int_max}
 use Rattle.std.proofs.lemmas.Int.{ints}
-use Rattle.std.specs.Option.{option_partial_cmp}
-use Rattle.std.specs.Ordering.{partial_le, as_partial_cmp, int_cmp, is_le}
 use lib.Signed.{le_z}
-use Rattle.theory.specs.MaxPlus.{greater, number}
+use Rattle.theory.specs.MaxPlus.{greater}
 use mir.ValLaws.{to_z_pos, to_z-of_z}
 use Rattle.theory.specs.Arithmetic.{arithmetic, meaning, code_of, code_of-meaning}
-use Rattle.arith.specs.Numbers.{value_in, number_of, weight_of, Stands}
-use Rattle.arith.specs.Standing.{number_of_weight, weight_in_sheet, stands_small, greater_right, greater_left}
+use Rattle.theory.proofs.Bound.{within_meaning}
+use Rattle.arith.specs.Numbers.{number_of, weight_of, Stands, InSheet}
+use Rattle.arith.specs.Standing.{number_of_weight, weight_in_sheet, stands_small, greater_right, greater_left, within_in_sheet}
 
 -- a sheet number of arithmetic 0 as the machine narrows it
 pub narrowed : (z : ℤ) → SFits w64 z → Stands 0 z → nat_abs (to_z w64 (of_z w64 z)) ≡ (weight_of 0 z).0
@@ -34,21 +33,19 @@ sum_greater a b fa fb = let same : int_lt b a ≡ not (le_z a b) = grind (arith,
     go true e = rw (greater_right 0 (weight_of 1 a) (weight_of 1 b) (weight_in_sheet 0 a fa.sfits) (in_order true e)) (sym (number_of_weight 0 b))
     go false e = rw (greater_left 0 (weight_of 1 a) (weight_of 1 b) (weight_in_sheet 0 b fb.sfits) (in_order false e)) (sym (number_of_weight 0 a))
 
--- nothing is below every number, as an option has it
-greater_option : (x y : Option ℤ) → greater (value_in x) (value_in y) ≡ value_in (cond (partial_le (option_partial_cmp (as_partial_cmp int_cmp)) x y) y x)
-greater_option None None = refl
-greater_option None (Some n) = refl
-greater_option (Some m) None = refl
-greater_option (Some m) (Some n) = let same : is_le (int_cmp m n) ≡ le_z m n = grind (arith, ints) in rw same (go (le_z m n))
-  where
-    go : (c : Bool) → number (cond c n m) ≡ value_in (cond c (Some n) (Some m))
-    go true = refl
-    go false = refl
+meaning_in_sheet : (c : ℕ) → c < 2 ^ 32 → InSheet 1 (meaning 1 c)
+meaning_in_sheet c l = within_in_sheet 0 1 (omega arith) (meaning 1 c) (within_meaning c l)
 
--- the code of the greater meaning
-module _ (a b : ℕ) (x y : Option ℤ) (ex : value_in x ≡ meaning 1 a) (ey : value_in y ≡ meaning 1 b) where
-  pub code_right : b < 2 ^ 32 → true ≡ partial_le (option_partial_cmp (as_partial_cmp int_cmp)) x y → b ≡ code_of 1 (greater (meaning 1 a) (meaning 1 b))
-  code_right l e = sym (code_of-meaning 1 b l) ∙ ap (code_of 1) (sym ey ∙ sym (rw (← e) at (greater_option x y)) ∙ ap₂ greater ex ey)
+-- the code of the greater meaning, where x and y stand for the two meanings
+module _ (a b : ℕ) (fa : a < 2 ^ 32) (fb : b < 2 ^ 32) (x y : ℤ) (fx : SFits w64 x) (fy : SFits w64 y) (ex : x ≡ number_of 1 (meaning 1 a)) (ey : y ≡ number_of 1 (meaning 1 b)) where
+  pub code_right : (n : ℕ) → n ≢ 0 → le_z (to_z w64 (of_z w64 x)) (to_z w64 (of_z w64 y)) ≡ true → b ≡ code_of n ((arithmetic n).plus (meaning n a) (meaning n b))
+  code_right zero some e = absurd (some refl)
+  code_right (suc n) some e =
+      let more = rw (to_z-of_z w64 x fx, to_z-of_z w64 y fy, ex, ey) at e in
+      sym (code_of-meaning 1 b fb) ∙ ap (code_of 1) (sym (greater_right n (meaning 1 a) (meaning 1 b) (meaning_in_sheet a fa) more))
 
-  pub code_left : a < 2 ^ 32 → false ≡ partial_le (option_partial_cmp (as_partial_cmp int_cmp)) x y → a ≡ code_of 1 (greater (meaning 1 a) (meaning 1 b))
-  code_left l e = sym (code_of-meaning 1 a l) ∙ ap (code_of 1) (sym ex ∙ sym (rw (← e) at (greater_option x y)) ∙ ap₂ greater ex ey)
+  pub code_left : (n : ℕ) → n ≢ 0 → le_z (to_z w64 (of_z w64 x)) (to_z w64 (of_z w64 y)) ≡ false → a ≡ code_of n ((arithmetic n).plus (meaning n a) (meaning n b))
+  code_left zero some e = absurd (some refl)
+  code_left (suc n) some e =
+      let less = rw (to_z-of_z w64 x fx, to_z-of_z w64 y fy, ex, ey) at e in
+      sym (code_of-meaning 1 a fa) ∙ ap (code_of 1) (sym (greater_left n (meaning 1 a) (meaning 1 b) (meaning_in_sheet b fb) less))

@@ -17,7 +17,13 @@ pub fn sum_of_codes<A: IntoArithmetic>(arithmetic: A, a: u32, b: u32) -> u32
 {
     match arithmetic.into_arithmetic() {
         Arithmetic::Modular => a.wrapping_add(b),
-        Arithmetic::MaxPlus => { if meaning_of(a) <= meaning_of(b) { b } else { a } }
+        Arithmetic::MaxPlus => {
+            if number_of_code(Arithmetic::MaxPlus, a) <= number_of_code(Arithmetic::MaxPlus, b) {
+                b
+            } else {
+                a
+            }
+        }
     }
 }
 

@@ -3,8 +3,10 @@
 
 #![tactic(auto)]
 
-ghost use Rattle.std.specs.Prelude.{◌≤◌, length, IfOk};
+ghost use Rattle.std.specs.Prelude.{◌≡◌, ◌≤◌, length, IfOk};
+ghost use Rattle.answers.specs.Numbers.{answer_figure};
 
+use answers::Answer;
 use collapse::Counted;
 use std::io;
 use std::io::Read;
@@ -59,7 +61,14 @@ fn show_header(rt: &impl Print, table: &TableRecord) -> io::Result<()> {
     )
 }
 
-// The number of blocks, and the block of each state. (A refusal, which cannot come here, would have its figure in the number's place.)
+// An answer's figure, also a refusal's, which cannot come here.
+fn figure_of(answer: Answer) -> usize
+    ensures { result ≡ answer_figure answer }
+{
+    answer.unwrap_or_else(|refusal| refusal.figure())
+}
+
+// The number of blocks, and the block of each state.
 fn show_blocks(
     rt: &impl Print,
     name: &str,
@@ -70,9 +79,7 @@ fn show_blocks(
     requires { states ≤ 256 }
 {
     let mut room = [0u8; 256];
-    let number = collapse::blocks(direction, table, &mut room).unwrap_or_else(
-        |refusal| refusal.figure(),
-    );
+    let number = figure_of(collapse::blocks(direction, table, &mut room));
     print!(rt; "{name} blocks {number} :")?;
     for block in &room[..states] {
         print!(rt; " {block}")?;
@@ -84,9 +91,7 @@ fn show_blocks(
 fn show_collapse(rt: &impl Print, name: &str, direction: u32, table: &[u8]) -> io::Result<()> {
     let mut room = [0u8; 65415];
     let collapsed = collapse::collapse(direction, table, &mut room);
-    let length = collapsed
-        .map(|counted| counted.length)
-        .unwrap_or_else(|refusal| refusal.figure());
+    let length = figure_of(collapsed.map(|counted| counted.length));
     let (_, transitions) = Counted::counts_beside(collapsed);
     println!(rt; "{name} table {length} bytes {transitions} transitions")
 }

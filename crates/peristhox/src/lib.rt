@@ -8,6 +8,8 @@ ghost use Rattle.answers.specs.Numbers.{packed};
 ghost use Rattle.calls.specs.Answers.{checked, rewritten_answer, rewritten_room};
 ghost use Rattle.peristhox.specs.Faces.{WeighFace, BlocksFace, CollapseFace, ShrinkFace};
 
+use weigh::Weighing;
+
 // Whether the bytes are a table: done with its number of states.
 #[unsafe(no_mangle)]
 pub extern "C" fn peristhox_check(table: &[u8]) -> u64
@@ -37,8 +39,8 @@ pub extern "C" fn peristhox_weigh(
     ensures { WeighFace table.now tree.now sheet.old weight.old result sheet.new weight.new }
 {
     let weighing = weigh::weigh(table, tree, sheet);
-    if let Ok(found) = weighing {
-        *weight = found.weight;
+    if Weighing::weight_given(weighing) {
+        *weight = Weighing::weight_beside(weighing);
     }
     answers::pack(weighing.map(|found| found.nodes))
 }

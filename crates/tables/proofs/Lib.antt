@@ -1,3 +1,4 @@
+pub mod After
 pub mod Bounds
 pub mod Filling
 pub mod Order

@@ -106,8 +106,8 @@ fn put_transition<S: Sink>(table: &TableRecord, j: usize, sink: &mut S)
     let symbol = table.symbol[j];
     let rank = table.ranks[symbol as usize] as usize;
     sink.number(symbol as u32);
-    // A slice by hand: `children_of` asks for a rank of at most 4, this function only that the children stand inside the array.
-    for child in &table.children[j * 4..j * 4 + rank] {
+    // Two parts by hand: `children_of` asks for a rank of at most 4, this function only that the children stand inside the array.
+    for child in &table.children[j * 4..][..rank] {
         sink.number(*child as u32);
     }
     sink.number(table.target[j] as u32);

@@ -1,4 +1,4 @@
-use Rattle.std.proofs.Common.{◌≡◌, ℕ, ◌+◌, ◌-◌, ◌*◌, List, [], ◌∷◌, ◌++◌, get_or, take, drop, ap, sym, subst, arith}
+use Rattle.std.proofs.Common.{◌≡◌, ℕ, ◌-◌, ◌*◌, ◌≤◌, List, [], ◌∷◌, ◌++◌, get_or, take, drop, sym, subst, arith, take-take}
 use Rattle.format.specs.Written.{transition_numbers}
 use Rattle.tables.specs.Record.{row_at}
 use Rattle.tables.specs.Rows.{columns_of}
@@ -6,12 +6,12 @@ use Rattle.tables.specs.declared.TableRecord.{TableRecord}
 use Rattle.writer.proofs.Walks.{Walked, walk_starts, next_fits, next_taken, items_open, items_close, walk_ends}
 use Rattle.writer.proofs.put_transition.Goals as goal
 
--- the children of transition j, as the loop has them
+-- the children of transition j, as the loop has them: the first of those from its own place on
 abbrev kids : TableRecord → ℕ → List ℕ
-kids t j = let rank = get_or t.ranks (get_or t.symbol j 0) 0 in take (j * 4 + rank - j * 4) (drop (j * 4) t.children)
+kids t j = take (get_or t.ranks (get_or t.symbol j 0) 0) (take (16000 - j * 4) (drop (j * 4) t.children))
 
-kids_are : (t : TableRecord) (j : ℕ) → kids t j ≡ (row_at (columns_of t) j).children
-kids_are t j = let rank = get_or t.ranks (get_or t.symbol j 0) 0 in ap (λ (n : ℕ). take n (drop (j * 4) t.children)) (omega arith)
+kids_are : (t : TableRecord) (j : ℕ) → get_or t.ranks (get_or t.symbol j 0) 0 ≤ 16000 - j * 4 → kids t j ≡ (row_at (columns_of t) j).children
+kids_are t j inside = take-take (get_or t.ranks (get_or t.symbol j 0) 0) (16000 - j * 4) (drop (j * 4) t.children) inside
 
 -- the target and the code
 abbrev ends : TableRecord → ℕ → List ℕ
@@ -25,7 +25,7 @@ loop-child-init g c =
     let t = c.args.table.now in
     let numbers = transition_numbers (row_at (columns_of t) c.args.j) in
     let laws = g.met.S.Sink.laws in
-    subst (λ (l : List ℕ). Walked g.S.Sink.took numbers c.args.sink.now c.number.new.self (l ++ ends t c.args.j)) (sym (kids_are t c.args.j))
+    subst (λ (l : List ℕ). Walked g.S.Sink.took numbers c.args.sink.now c.number.new.self (l ++ ends t c.args.j)) (sym (kids_are t c.args.j (omega arith)))
     (next_taken laws (walk_starts laws numbers c.args.sink.now) c.number.ensures)
 
 pub number-requires-in-loop-child : goal.number-requires-in-loop-child
