@@ -102,7 +102,7 @@ module _ (D : ℕ) (blocks : List ℕ) (dirty : List Bool) where
           dirties r l b g (yes e) = (count, omega arith, at_last found count room q ∙ sym e)
           dirties r l b g (no d) = let m = now.so_far.dirty_found r (omega arith) b g in (m.0, omega (arith, m.1), before_last found count room q m.0 m.1 ∙ m.2)
 
-    gathering_ends : left ≡ 0 → q ≤ n → DirtyMembers D n blocks dirty found count
+    pub gathering_ends : left ≡ 0 → q ≤ n → DirtyMembers D n blocks dirty found count
     gathering_ends none inside = record {
       few = omega (arith, now.so_far.few, now.rest);
       members = λ i l. let m = now.so_far.members i l in (omega (arith, m.0), m.1);
