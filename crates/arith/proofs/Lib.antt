@@ -1,3 +1,4 @@
+pub mod Negation
 pub mod Cases
 pub mod Codes
 pub mod Sums

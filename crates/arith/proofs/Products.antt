@@ -1,5 +1,6 @@
 -- What the machine's products of sheet numbers stand for, in each arithmetic.
-use Rattle.std.proofs.Common.{◌≡◌, ℕ, suc, ◌-◌, ◌*◌, ◌%◌, ◌^◌, ◌<◌, false, ℤ, pos, negsuc, ◌+ℤ◌, nat_abs, sym, refl, ap, ◌∙◌, arith, w64, SFits, to_z, of_z, ne_eqb}
+use Rattle.std.proofs.Common.{◌≡◌, ℕ, suc, ◌+◌, ◌-◌, ◌*◌, ◌%◌, ◌^◌, ◌<◌, false, ℤ, pos, negsuc, ◌+ℤ◌, nat_abs, sym, refl, ap, ◌∙◌, lt_of_le_of_lt, le_of_lt, mul-le-mul_left, mul-lt-mul_of_pos_right, arith, pow_pos, pow-add, w64, SFits, to_z, of_z, ne_eqb}
+use mathlib.Core.Path.{subst⁻¹}
 use mir.ValLaws.{to_z_pos, to_z-of_z}
 use Rattle.theory.specs.MaxPlus.{number, added}
 use Rattle.theory.proofs.MaxPlus.{added_nothing}
@@ -7,6 +8,12 @@ use Rattle.theory.specs.Arithmetic.{arithmetic}
 use Rattle.theory.proofs.Bound.{mag_nat_abs}
 use Rattle.arith.specs.Numbers.{number_of, weight_of, is_nothing, Stands, InSheet}
 use Rattle.arith.proofs.Sums.{narrowed}
+
+-- the product of two numbers of k bits has at most k + k
+pub product_below : (k : ℕ) {a b : ℕ} → a < 2 ^ k → b < 2 ^ k → a * b < 2 ^ (k + k)
+product_below k {a} {b} ha hb =
+    subst⁻¹ (λ (n : ℕ). a * b < n) (pow-add 2 k k)
+    (lt_of_le_of_lt (mul-le-mul_left a (le_of_lt hb)) (mul-lt-mul_of_pos_right ha (pow_pos k)))
 
 pub product_modular : (a b : ℤ) → SFits w64 a → SFits w64 b → Stands 0 a → Stands 0 b → (r : ℕ)
     → r ≡ nat_abs (to_z w64 (of_z w64 a)) * nat_abs (to_z w64 (of_z w64 b)) % 2 ^ 32
